@@ -1,0 +1,108 @@
+-- Laws of identities. Assumes nothing.
+use mathlib.Core.Path.{_≡_, refl, sym, ap, ap₂, _∙_}
+use mathlib.Core.Bool.{Bool, true, false, _&&_}
+use Prim.Native.Nat.{ℕ, zero, suc, _^_, _<_, _≤_}
+use native.Mathlib.Omega.{arith}
+use lib.Dec.{eqb, ltb}
+use borrow.Author.Tests.{eqb-true, eq-eqb, ne-eqb, ltb-true, lt-ltb}
+use Rattle.rach.specs.Identity.{typeOf, valueOf, widthOf, identityOf, partsOf, same, inRange}
+use Rattle.rach.specs.declared.IdentityParts.{IdentityParts}
+use Rattle.rach.specs.declared.MobileIdentity.{MobileIdentity}
+use Rattle.rach.specs.declared.MobileIdentity.the-variants.{Tmsi20, Tmsi24, Min34, Imsi50}
+
+-- a type is two bits, a width 20 to 50
+pub type-lt : (i : MobileIdentity) → typeOf i < 4
+type-lt (Tmsi20 v) = omega arith
+type-lt (Tmsi24 v) = omega arith
+type-lt (Min34 v) = omega arith
+type-lt (Imsi50 v) = omega arith
+
+pub width-least : (t : ℕ) → 20 ≤ widthOf t
+width-least zero = omega arith
+width-least (suc zero) = omega arith
+width-least (suc (suc zero)) = omega arith
+width-least (suc (suc (suc t))) = omega arith
+
+pub width-most : (t : ℕ) → widthOf t ≤ 50
+width-most zero = omega arith
+width-most (suc zero) = omega arith
+width-most (suc (suc zero)) = omega arith
+width-most (suc (suc (suc t))) = omega arith
+
+-- a type that is none of 0, 1 and 2
+pub width-rest : (t : ℕ) → (t ≡ 0 → ⊥) → (t ≡ 1 → ⊥) → (t ≡ 2 → ⊥) → 50 ≡ widthOf t
+width-rest zero a b c = absurd (a refl)
+width-rest (suc zero) a b c = absurd (b refl)
+width-rest (suc (suc zero)) a b c = absurd (c refl)
+width-rest (suc (suc (suc t))) a b c = refl
+
+pub identity-rest : (t v : ℕ) → (t ≡ 0 → ⊥) → (t ≡ 1 → ⊥) → (t ≡ 2 → ⊥) → Imsi50 v ≡ identityOf t v
+identity-rest zero v a b c = absurd (a refl)
+identity-rest (suc zero) v a b c = absurd (b refl)
+identity-rest (suc (suc zero)) v a b c = absurd (c refl)
+identity-rest (suc (suc (suc t))) v a b c = refl
+
+-- an identity is its type and its value, and the other way round
+pub identity-parts : (i : MobileIdentity) → identityOf (typeOf i) (valueOf i) ≡ i
+identity-parts (Tmsi20 v) = refl
+identity-parts (Tmsi24 v) = refl
+identity-parts (Min34 v) = refl
+identity-parts (Imsi50 v) = refl
+
+pub value-identity : (t v : ℕ) → valueOf (identityOf t v) ≡ v
+value-identity zero v = refl
+value-identity (suc zero) v = refl
+value-identity (suc (suc zero)) v = refl
+value-identity (suc (suc (suc t))) v = refl
+
+pub type-identity : (t v : ℕ) → t < 4 → typeOf (identityOf t v) ≡ t
+type-identity zero v h = refl
+type-identity (suc zero) v h = refl
+type-identity (suc (suc zero)) v h = refl
+type-identity (suc (suc (suc zero))) v h = refl
+type-identity (suc (suc (suc (suc t)))) v h = absurd (omega arith)
+
+-- both tests hold
+pub both : (a b : Bool) → a && b ≡ true → (a ≡ true) × (b ≡ true)
+both true true e = (refl, refl)
+both true false e = (refl, e)
+both false true e = (e, refl)
+both false false e = (e, e)
+
+-- equal identities are the same identity
+pub same-self : (i : MobileIdentity) → same i i ≡ true
+unfolding same
+same-self i = rw (eq-eqb (typeOf i) (typeOf i) refl, eq-eqb (valueOf i) (valueOf i) refl)
+
+pub same-equal : (a b : MobileIdentity) → same a b ≡ true → a ≡ b
+unfolding same
+same-equal a b e =
+    let p = both (eqb (typeOf a) (typeOf b)) (eqb (valueOf a) (valueOf b)) e in
+    let t : typeOf a ≡ typeOf b = eqb-true (typeOf a) (typeOf b) (p .0) in
+    let v : valueOf a ≡ valueOf b = eqb-true (valueOf a) (valueOf b) (p .1) in
+    sym (identity-parts a) ∙ ap (λ (x : ℕ). identityOf x (valueOf a)) t ∙ ap (identityOf (typeOf b)) v ∙ identity-parts b
+
+-- the tests of `equals`, on the parts
+module _ (a b : MobileIdentity) {p q : IdentityParts} (ep : p ≡ partsOf a) (eq : q ≡ partsOf b) where
+  pub types-differ : (p .«identity_type» ≡ q .«identity_type» → ⊥) → false ≡ same a b
+  unfolding same
+  types-differ d =
+      let n : typeOf a ≡ typeOf b → ⊥ = λ e. d (ap (λ (x : IdentityParts). x .«identity_type») ep ∙ e ∙ sym (ap (λ (x : IdentityParts). x .«identity_type») eq)) in
+      rw (ne-eqb (typeOf a) (typeOf b) n)
+
+  pub types-equal : p .«identity_type» ≡ q .«identity_type» → eqb (p .value) (q .value) ≡ same a b
+  unfolding same
+  types-equal e =
+      let n : typeOf a ≡ typeOf b = sym (ap (λ (x : IdentityParts). x .«identity_type») ep) ∙ e ∙ ap (λ (x : IdentityParts). x .«identity_type») eq in
+      rw (eq-eqb (typeOf a) (typeOf b) n) (ap₂ (λ (x y : IdentityParts). eqb (x .value) (y .value)) ep eq)
+
+-- what the rule accepts, and only that
+pub in-range : (v w : ℕ) → 0 < v → v < 2 ^ w → inRange v w ≡ true
+unfolding inRange
+in-range v w p h = rw (lt-ltb 0 v p, lt-ltb v (2 ^ w) h)
+
+pub range-in : (v w : ℕ) → inRange v w ≡ true → (0 < v) × (v < 2 ^ w)
+unfolding inRange
+range-in v w e =
+    let p = both (ltb 0 v) (ltb v (2 ^ w)) e in
+    (ltb-true 0 v (p .0), ltb-true v (2 ^ w) (p .1))

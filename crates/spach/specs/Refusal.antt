@@ -1,0 +1,43 @@
+-- 01, "Refused, operation by operation": refusals by number, and answers that are a value or a refusal. Assumes nothing.
+use mathlib.Core.Bool.{Bool, true, false}
+use Prim.Native.Nat.{ℕ}
+use Rattle.spach.specs.declared.SpachError.{SpachError}
+use Rattle.spach.specs.declared.SpachError.the-variants.{Length, Identity, UnsupportedUsage, UnsupportedFrame, Encrypted, Reserved, Filler, PartialEcho, FrameNumber, Payload, DuplicateConflict, Padding, Room}
+use Rattle.spach.specs.declared.Verdict.{Verdict}
+use Rattle.spach.specs.declared.Verdict.the-variants.{Accepted, Refused}
+
+-- SpachError's numbers; Padding and Room are added to the Rust's
+abbrev pub numberOf : SpachError → ℕ
+numberOf Length = 1
+numberOf Identity = 2
+numberOf UnsupportedUsage = 3
+numberOf UnsupportedFrame = 4
+numberOf Encrypted = 5
+numberOf Reserved = 6
+numberOf Filler = 7
+numberOf PartialEcho = 11
+numberOf FrameNumber = 12
+numberOf Payload = 13
+numberOf DuplicateConflict = 14
+numberOf Padding = 15
+numberOf Room = 16
+
+-- what a call comes to: a value, or a refusal by its number
+pub data Outcome (A : Type 0) : Type 0 where
+  gives : A → Outcome A
+  refuses : ℕ → Outcome A
+
+-- refused by the number n if the test holds, else what follows
+abbrev pub refuse : {A : Type 0} → Bool → ℕ → Outcome A → Outcome A
+refuse true n o = refuses n
+refuse false n o = o
+
+-- a refusal stays; a value goes on
+abbrev pub andThen : {A B : Type 0} → Outcome A → (A → Outcome B) → Outcome B
+andThen (gives a) f = f a
+andThen (refuses n) f = refuses n
+
+-- an answer without a value, as a number: 0 is accepted, any other the refusal
+abbrev pub verdictOf : Verdict → ℕ
+verdictOf Accepted = 0
+verdictOf (Refused e) = numberOf e
