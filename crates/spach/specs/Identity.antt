@@ -1,5 +1,5 @@
 -- 01: encoding needs an identity of 1 to 2^width − 1; any other is refused 2. Assumes nothing.
-use mathlib.Core.Bool.{cond, not}
+use mathlib.Core.Bool.{not}
 use Prim.Native.Nat.{ℕ}
 use lib.Dec.{ltb}
 use Rattle.rach.specs.Identity.{identityOf, widthOf, inRange, encodable}
@@ -12,9 +12,9 @@ abbrev pub identityAnswer : IdentityAnswer → Outcome MobileIdentity
 identityAnswer (Identity i) = gives i
 identityAnswer (Refused e) = refuses (numberOf e)
 
--- 0, or 2 for an identity that cannot be encoded
-unfoldable pub checkIdentity : MobileIdentity → ℕ
-checkIdentity i = cond (encodable i) 0 2
+-- 2 for an identity that cannot be encoded
+unfoldable pub checkIdentity : MobileIdentity → Outcome Unit
+checkIdentity i = refuse (not (encodable i)) 2 (gives tt)
 
 -- the identity of a type and a value; 2 for a type above 3 and for a value that cannot be encoded
 unfoldable pub acceptIdentity : ℕ → ℕ → Outcome MobileIdentity

@@ -37,7 +37,7 @@ abbrev pub andThen : {A B : Type 0} → Outcome A → (A → Outcome B) → Outc
 andThen (gives a) f = f a
 andThen (refuses n) f = refuses n
 
--- an answer without a value, as a number: 0 is accepted, any other the refusal
-abbrev pub verdictOf : Verdict → ℕ
-verdictOf Accepted = 0
-verdictOf (Refused e) = numberOf e
+-- an answer that has no value
+abbrev pub verdictOf : Verdict → Outcome Unit
+verdictOf Accepted = gives tt
+verdictOf (Refused e) = refuses (numberOf e)

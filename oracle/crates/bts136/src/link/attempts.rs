@@ -1,0 +1,1 @@
+//! Shim: not given. `rach.rs` names the module; nothing of it is used.

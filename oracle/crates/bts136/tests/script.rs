@@ -1,0 +1,125 @@
+//! The interpreter on answers computed by hand from the README and the layout of a frame.
+use bts136::harness::script::{END, END_CUT, END_NO_ROOM, END_UNKNOWN, OPERATIONS, operation, run};
+
+fn octets(hex: &str) -> Vec<u8> {
+    let digits: Vec<u8> = hex.bytes().filter(|digit| *digit != b' ').collect();
+    let digits = String::from_utf8(digits).unwrap();
+    (0..digits.len())
+        .step_by(2)
+        .map(|at| u8::from_str_radix(&digits[at..at + 2], 16).unwrap())
+        .collect()
+}
+/// Runs a script in ample room: the answers and nothing else, the end octet after them.
+#[track_caller]
+fn answers(script: &str, expected: &str) {
+    let mut room = [0x55; 400];
+    let length = run(&octets(script), &mut room);
+    let mut expected = octets(expected);
+    expected.push(END);
+    assert_eq!(room[..length], expected[..]);
+    assert!(room[length..].iter().all(|octet| *octet == 0x55));
+}
+
+#[test]
+fn the_table_is_in_the_order_of_its_op_octets() {
+    for row in &OPERATIONS {
+        assert_eq!(operation(row.op).map(|found| found.op), Some(row.op));
+    }
+    assert!(operation(0).is_none());
+    assert!(operation(OPERATIONS.len() as u8 + 1).is_none());
+}
+
+#[test]
+fn identities() {
+    answers("01 02 0000000000000007", "00 02 22 0000000000000007");
+    answers("01 00 00000000ffffffff", "00 00 14 00000000ffffffff");
+    answers("01 01 0000000100000000", "ff");
+    answers("01 04 0000000000000001", "ff");
+    answers("02 01 0000000000ffffff", "00");
+    answers("02 01 0000000001000000", "02");
+    answers("02 03 0000000000000000", "02");
+    answers("02 00 0000000100000000", "ff");
+    answers("03 00 0000000000000005 00 0000000000000005", "00 01");
+    answers("03 00 0000000000000005 01 0000000000000005", "00 00");
+    answers("03 02 0000000000000005 09 0000000000000005", "ff");
+    answers("04 03 0003ffffffffffff", "00 03 0003ffffffffffff");
+    answers("04 00 0000000100000000", "02");
+    answers("04 04 0000000000000001", "02");
+}
+
+#[test]
+fn headers_and_addresses() {
+    let frame = "6140000021480504000000000000";
+    answers(&format!("05 00 {frame}"), "00 03 00 07");
+    answers(&format!("06 0a {frame}"), "00 00 0000000000000001 00 23");
+    // usage 4, flags 101, fourth flag clear; then the fourth set; then usage 5
+    answers("05 00 9400000000000000000000000000", "00 04 0a 07");
+    answers("05 00 9600000000000000000000000000", "06");
+    answers("05 00 b600000000000000000000000000", "03");
+    // usage 7 at the last offset, the lowest 7 bits
+    answers("05 69 000000000000000000000000007c", "00 07 0c 70");
+    answers("05 6a ffffffffffffffffffffffffffff", "ff");
+    // type 3, reservation response, identity all ones but the last bit, at the last offset; then the bit after the type
+    answers(
+        "06 39 000000000000006bfffffffffffe",
+        "00 03 0003fffffffffffe 01 70",
+    );
+    answers("06 39 000000000000007bfffffffffffe", "04");
+    answers("06 39 0000000000000000 000000000000", "02");
+    answers(
+        "06 00 d1 8000000000 0000 000000000000",
+        "00 03 0000c00000000000 01 37",
+    );
+    answers("06 00 0800000000000000000000000000", "05");
+    answers("06 3a 0000000000000000000000000000", "ff");
+}
+
+#[test]
+fn the_store() {
+    let zeros = |count: usize| "00".repeat(count);
+    answers("07 0000 32", "00 0000000000000000 0032");
+    answers("07 01ce 32", "00 0000000000000000 0200");
+    answers("07 01cf 32", "01");
+    answers("07 0000 00 07 0000 33 07 ffff 01", "ff ff 01");
+    // the low three bits of the value, and no other, at bit 6
+    answers(
+        "08 0006 03 fffffffffffffffd 0a",
+        &format!("00 00 0280{}", zeros(62)),
+    );
+    answers("08 01ff 02 0000000000000003", "01");
+    answers("08 01ff 33 0000000000000003", "ff");
+    answers(
+        "09 07 0102030405060708 09 08 0102030405060708 0a",
+        &format!("00 ff 00{} 0102030405060708", zeros(56)),
+    );
+    // one octet, four bits down, over itself: the bits as they were
+    answers(
+        "09 00 f100000000000000 0b 0004 0000 0008 0a",
+        &format!("00 00 00 ff10{}", zeros(62)),
+    );
+    answers("0b 0200 0200 0000 0b 0201 0000 0000", "00 01");
+    answers("0b 0000 01ff 0002 0b 01ff 0000 0002", "01 01");
+}
+
+/// Runs in a room of this size and gives what was written.
+fn ends(script: &str, room: usize) -> Vec<u8> {
+    let mut answers = vec![0x55; room];
+    let length = run(&octets(script), &mut answers);
+    assert!(answers[length..].iter().all(|octet| *octet == 0x55));
+    answers.truncate(length);
+    answers
+}
+#[test]
+fn ends_of_a_script() {
+    assert_eq!(ends("", 1), [END]);
+    assert_eq!(ends("", 0), []);
+    assert_eq!(ends("00", 1), [END_UNKNOWN]);
+    assert_eq!(ends("0c", 1), [END_UNKNOWN]);
+    assert_eq!(ends("07 0000", 1), [END_CUT]);
+    // CHECK has a longest answer of 1, TAKE of 11 even where it refuses
+    assert_eq!(ends("02 00 0000000000000001", 2), [0, END]);
+    assert_eq!(ends("02 00 0000000000000001", 1), [END_NO_ROOM]);
+    assert_eq!(ends("07 0000 00", 12), [255, END]);
+    assert_eq!(ends("07 0000 00", 11), [END_NO_ROOM]);
+    assert_eq!(ends("07 0000 00 07 0000 00", 12), [255, END_NO_ROOM]);
+}

@@ -1,0 +1,311 @@
+//! Random scripts, most of their operands at or near a boundary.
+use crate::random::Random;
+use bts136::harness::{
+    script::{
+        ACCEPT, ADDRESS, CHECK, COPY, DUMP, EQUAL, FIELD_BITS, FILL, HEADER_A, LAST_ADDRESS,
+        LAST_HEADER_A, OPERATIONS, PARTS, PUT, STORE_BITS, TAKE, operation,
+    },
+    wire::{self, FRAME_OCTETS},
+};
+
+const FRAME_BITS: usize = 8 * FRAME_OCTETS;
+const EIGHTHS: u8 = 8;
+const HEADER_A_BITS: usize = 7;
+/// Header A and the type stand before an address.
+const BEFORE_ADDRESS: usize = 10;
+/// The longest address.
+const ADDRESS_BITS: usize = 55;
+
+/// A script of 0 to some hundreds of operations; some are cut, damaged or have an op octet of no operation.
+pub fn script(random: &mut Random) -> Vec<u8> {
+    let most = random.pick(&[0, 1, 3, 10, 50, 150, 400]);
+    let count = random.below(most + 1);
+    let mut script = operations(random, count);
+    match random.below(100) {
+        0..=11 => script.truncate(random.below(script.len() + 1)),
+        12..=19 => push_unknown_op(random, &mut script),
+        20..=27 => flip_a_bit(random, &mut script),
+        _ => {}
+    }
+    script
+}
+/// An op octet of no operation, now and then with operations after it.
+fn push_unknown_op(random: &mut Random, script: &mut Vec<u8>) {
+    let first_unknown = OPERATIONS.len() as u8 + 1;
+    script.push(random.pick(&[0, first_unknown, 0x80, 0xe0, 0xff]));
+    let rest = random.below(3);
+    script.extend_from_slice(&operations(random, rest));
+}
+fn flip_a_bit(random: &mut Random, script: &mut [u8]) {
+    if !script.is_empty() {
+        script[random.below(script.len())] ^= 1 << random.below(8);
+    }
+}
+
+/// This many whole operations.
+pub fn operations(random: &mut Random, count: usize) -> Vec<u8> {
+    let mut script = Vec::new();
+    let mut left = count;
+    // A store without zeros, so that a DUMP shows which bits stay.
+    if left > usize::from(EIGHTHS) && random.chance(70) {
+        fill_all(random, &mut script);
+        left -= usize::from(EIGHTHS);
+    }
+    while left > 0 {
+        let op = 1 + random.below(OPERATIONS.len()) as u8;
+        append(random, op, &mut script);
+        left -= 1;
+        if left > 0 && [PUT, COPY, FILL].contains(&op) && random.chance(50) {
+            script.push(DUMP);
+            left -= 1;
+        }
+    }
+    script
+}
+fn fill_all(random: &mut Random, script: &mut Vec<u8>) {
+    for eighth in 0..EIGHTHS {
+        script.extend_from_slice(&[FILL, eighth]);
+        script.extend_from_slice(&random.octets::<8>());
+    }
+}
+/// Appends an operation and its operands.
+pub fn append(random: &mut Random, op: u8, script: &mut Vec<u8>) {
+    let row = operation(op).expect("an op octet of the table");
+    script.push(op);
+    let start = script.len();
+    match op {
+        PARTS | CHECK | ACCEPT => script.extend_from_slice(&identity(random)),
+        EQUAL => equal(random, script),
+        HEADER_A => header_a(random, script),
+        ADDRESS => address(random, script),
+        TAKE => take(random, script),
+        PUT => put(random, script),
+        FILL => fill(random, script),
+        DUMP => {}
+        COPY => copy(random, script),
+        _ => unreachable!("{} has no operands yet", row.name),
+    }
+    assert_eq!(script.len() - start, row.operands, "{}", row.name);
+}
+
+fn identity(random: &mut Random) -> [u8; 9] {
+    let kind = identity_kind(random);
+    identity_operand(kind, identity_value(random, kind))
+}
+pub fn identity_operand(kind: u8, value: u64) -> [u8; 9] {
+    let mut octets = [kind; 9];
+    octets[1..].copy_from_slice(&value.to_be_bytes());
+    octets
+}
+fn identity_kind(random: &mut Random) -> u8 {
+    match random.below(12) {
+        0 => random.pick(&[4, 5, 0x7f, 0x80, 0xff]),
+        1 => random.octet(),
+        _ => random.octet() % 4,
+    }
+}
+/// The values at which an identity of this type begins or ends to be one; a type over 3 borrows another's.
+pub fn identity_bounds(kind: u8) -> [u64; 8] {
+    let over = 1 << wire::identity_width(kind % 4);
+    [
+        0,
+        1,
+        over - 1,
+        over,
+        over + 1,
+        (1 << 32) - 1,
+        1 << 32,
+        u64::MAX,
+    ]
+}
+fn identity_value(random: &mut Random, kind: u8) -> u64 {
+    match random.below(10) {
+        0..=3 => random.pick(&identity_bounds(kind)),
+        4 => random.any_length(),
+        _ => random.any_length() % (1 << wire::identity_width(kind % 4)),
+    }
+}
+fn equal(random: &mut Random, script: &mut Vec<u8>) {
+    let left = identity(random);
+    let mut right = left;
+    match random.below(8) {
+        0..=2 => {}
+        3 => right[0] = identity_kind(random),
+        4 | 5 => flip_a_bit(random, &mut right[1..]),
+        _ => right = identity(random),
+    }
+    script.extend_from_slice(&left);
+    script.extend_from_slice(&right);
+}
+
+fn header_a(random: &mut Random, script: &mut Vec<u8>) {
+    let offset = frame_offset(random, 0, LAST_HEADER_A);
+    let mut bits = near_frame(random, Some(offset), offset + BEFORE_ADDRESS);
+    damage(random, &mut bits, offset, HEADER_A_BITS);
+    script.push(offset as u8);
+    script.extend_from_slice(&packed(&bits));
+}
+fn address(random: &mut Random, script: &mut Vec<u8>) {
+    let offset = frame_offset(random, BEFORE_ADDRESS, LAST_ADDRESS);
+    let header = offset.checked_sub(BEFORE_ADDRESS);
+    let mut bits = near_frame(random, header, offset);
+    damage(random, &mut bits, offset, ADDRESS_BITS);
+    script.push(offset as u8);
+    script.extend_from_slice(&packed(&bits));
+}
+/// A frame with its header A at bit 0, often one that both readers take.
+pub fn frame(random: &mut Random) -> [u8; FRAME_OCTETS] {
+    let mut bits = near_frame(random, Some(0), BEFORE_ADDRESS);
+    damage(random, &mut bits, 0, BEFORE_ADDRESS + ADDRESS_BITS);
+    packed(&bits)
+}
+pub fn packed(bits: &[bool]) -> [u8; FRAME_OCTETS] {
+    let mut octets = [0; FRAME_OCTETS];
+    wire::pack(bits, &mut octets);
+    octets
+}
+/// Random bits, mostly with a valid header A and address at these bit offsets.
+fn near_frame(random: &mut Random, header: Option<usize>, address: usize) -> [bool; FRAME_BITS] {
+    let mut bits = wire::unpack_frame(&random.octets::<FRAME_OCTETS>());
+    if random.chance(80) {
+        if let Some(header) = header {
+            set_header(random, &mut bits, header);
+        }
+        set_address(random, &mut bits, address);
+    }
+    bits
+}
+/// A bit offset in a frame: the usual one, one that fits, the edges of those, or any octet.
+fn frame_offset(random: &mut Random, usual: usize, last: usize) -> usize {
+    match random.below(10) {
+        0..=2 => usual,
+        3 => random.pick(&[0, last - 1, last, last + 1, FRAME_BITS, 255]),
+        4 => usize::from(random.octet()),
+        _ => random.below(last + 1),
+    }
+}
+/// Sets a field; what would stand past the end of the bits is left out.
+pub fn set(bits: &mut [bool], offset: usize, width: usize, value: u64) {
+    for place in 0..width {
+        if let Some(bit) = bits.get_mut(offset + place) {
+            *bit = value >> (width - 1 - place) & 1 != 0;
+        }
+    }
+}
+/// Header A with a known usage and the fourth flag clear, and the type of an ARQ frame after it.
+fn set_header(random: &mut Random, bits: &mut [bool], offset: usize) {
+    set(bits, offset, 3, random.pick(&[3, 4, 7]));
+    set(bits, offset + 6, 1, 0);
+    set(bits, offset + 7, 3, random.pick(&[5, 6]));
+}
+/// An address of each type, not encrypted, with any identity and now and then with 0.
+fn set_address(random: &mut Random, bits: &mut [bool], offset: usize) {
+    let kind = random.octet() % 4;
+    let width = wire::identity_width(kind);
+    let value = match random.below(8) {
+        0 => 0,
+        1 => random.pick(&[1, (1 << width) - 1, 1 << (width - 1)]),
+        _ => random.any_length(),
+    };
+    set(bits, offset, 2, u64::from(kind));
+    set(bits, offset + 2, 1, 0);
+    set(bits, offset + 4, 1, 0);
+    set(bits, offset + 5, width, value);
+}
+/// Flips, now and then, one of the bits that are read.
+fn damage(random: &mut Random, bits: &mut [bool], offset: usize, count: usize) {
+    if random.chance(25)
+        && let Some(bit) = bits.get_mut(offset + random.below(count))
+    {
+        *bit = !*bit;
+    }
+}
+
+fn take(random: &mut Random, script: &mut Vec<u8>) {
+    let width = field_width(random);
+    script.extend_from_slice(&store_offset(random, usize::from(width)));
+    script.push(width);
+}
+fn put(random: &mut Random, script: &mut Vec<u8>) {
+    take(random, script);
+    let value = match random.below(4) {
+        0 => random.pick(&[0, 1, u64::MAX, 1 << 49, 1 << 50, 1 << 63]),
+        1 => random.any_length(),
+        _ => random.next(),
+    };
+    script.extend_from_slice(&value.to_be_bytes());
+}
+fn fill(random: &mut Random, script: &mut Vec<u8>) {
+    script.push(match random.below(10) {
+        0 => random.pick(&[8, 9, 0x80, 0xff]),
+        1 => random.octet(),
+        _ => random.octet() % EIGHTHS,
+    });
+    script.extend_from_slice(&match random.below(8) {
+        0 => [0; 8],
+        1 => [0xff; 8],
+        _ => random.octets(),
+    });
+}
+fn copy(random: &mut Random, script: &mut Vec<u8>) {
+    let count = match random.below(10) {
+        0..=3 => random.pick(&[0, 1, 7, 8, 9, 64, 79, 511, 512, 513, 65535]),
+        4 => usize::from(random.next() as u16),
+        5 | 6 => random.below(STORE_BITS + 1),
+        _ => random.below(100),
+    };
+    script.extend_from_slice(&store_offset(random, count));
+    script.extend_from_slice(&store_offset(random, count));
+    script.extend_from_slice(&(count as u16).to_be_bytes());
+}
+fn field_width(random: &mut Random) -> u8 {
+    match random.below(10) {
+        0..=2 => random.pick(&[0, 1, 7, 8, 49, 50, 51, 255]),
+        3 => random.octet(),
+        _ => 1 + random.below(FIELD_BITS) as u8,
+    }
+}
+/// A bit offset in the store for this many bits: one that fits, the edges of those, or any.
+fn store_offset(random: &mut Random, count: usize) -> [u8; 2] {
+    let last = STORE_BITS.saturating_sub(count);
+    let offset = match random.below(20) {
+        0 => random.pick(&[0, 1, 7, 8, 511, 512, 513, 65535]),
+        1 | 2 => random.pick(&[last.saturating_sub(1), last, last + 1]),
+        3 => usize::from(random.next() as u16),
+        _ => random.below(last + 1),
+    };
+    (offset as u16).to_be_bytes()
+}
+
+#[cfg(test)]
+pub mod tests {
+    use super::*;
+    use bts136::harness::script::{ANSWERED, run_each};
+    use std::collections::BTreeSet;
+
+    /// Every number octet of the table is an answer to one of the scripts.
+    pub fn assert_all_reached(scripts: &[Vec<u8>]) {
+        let mut seen = BTreeSet::new();
+        let mut answers = vec![0; 1 << 16];
+        for script in scripts {
+            let mut steps = Vec::new();
+            run_each(script, &mut answers, |step| steps.push(step));
+            seen.extend(
+                steps
+                    .iter()
+                    .map(|step| (step.operation.op, answers[step.answer.start])),
+            );
+        }
+        for row in &OPERATIONS {
+            for number in row.refusals.iter().chain(&[ANSWERED]) {
+                assert!(seen.contains(&(row.op, *number)), "{} {number}", row.name);
+            }
+        }
+    }
+    #[test]
+    fn random_scripts_have_every_number_octet_of_every_operation() {
+        let mut random = Random(1);
+        let scripts: Vec<_> = (0..500).map(|_| script(&mut random)).collect();
+        assert_all_reached(&scripts);
+    }
+}

@@ -1,0 +1,30 @@
+//! Runs the original and the port on the same inputs. The commands are in the README.
+mod compare;
+mod generate;
+mod hex;
+mod make;
+mod port;
+mod random;
+mod time;
+
+use std::{env, path::Path, process::ExitCode};
+
+const USAGE: &str = "usage: driver compare SEED COUNT | make FOLDER | time";
+
+fn main() -> ExitCode {
+    let arguments: Vec<String> = env::args().skip(1).collect();
+    let arguments: Vec<&str> = arguments.iter().map(String::as_str).collect();
+    match arguments[..] {
+        ["compare", seed, count] => match (seed.parse(), count.parse()) {
+            (Ok(seed), Ok(count)) => compare::main(seed, count),
+            _ => usage(),
+        },
+        ["make", folder] => make::main(Path::new(folder)),
+        ["time"] => time::main(),
+        _ => usage(),
+    }
+}
+fn usage() -> ExitCode {
+    eprintln!("{USAGE}");
+    ExitCode::from(2)
+}

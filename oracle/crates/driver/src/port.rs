@@ -1,0 +1,86 @@
+//! Safe names of what the port exports. A slice is two C arguments there, pointer then length.
+//!
+//! None of these has a precondition beyond a valid slice, and Rust's borrows keep the slices apart.
+mod raw {
+    unsafe extern "C" {
+        pub fn script_run(script: *const u8, length: usize, answers: *mut u8, room: usize)
+        -> usize;
+        pub fn time_take(
+            octets: *const u8,
+            length: usize,
+            places: *const u8,
+            places_length: usize,
+            rounds: u64,
+        ) -> u64;
+        pub fn time_put(
+            octets: *mut u8,
+            length: usize,
+            places: *const u8,
+            places_length: usize,
+            rounds: u64,
+        );
+        pub fn time_header_a(octets: *const u8, length: usize, rounds: u64) -> u64;
+        pub fn time_address(octets: *const u8, length: usize, rounds: u64) -> u64;
+        pub fn time_copy(
+            to: *mut u8,
+            to_length: usize,
+            from: *const u8,
+            from_length: usize,
+            places: *const u8,
+            places_length: usize,
+            rounds: u64,
+        );
+    }
+}
+
+pub fn run(script: &[u8], answers: &mut [u8]) -> usize {
+    unsafe {
+        raw::script_run(
+            script.as_ptr(),
+            script.len(),
+            answers.as_mut_ptr(),
+            answers.len(),
+        )
+    }
+}
+pub fn time_take(octets: &[u8], places: &[u8], rounds: u64) -> u64 {
+    unsafe {
+        raw::time_take(
+            octets.as_ptr(),
+            octets.len(),
+            places.as_ptr(),
+            places.len(),
+            rounds,
+        )
+    }
+}
+pub fn time_put(octets: &mut [u8], places: &[u8], rounds: u64) {
+    unsafe {
+        raw::time_put(
+            octets.as_mut_ptr(),
+            octets.len(),
+            places.as_ptr(),
+            places.len(),
+            rounds,
+        );
+    }
+}
+pub fn time_header_a(octets: &[u8], rounds: u64) -> u64 {
+    unsafe { raw::time_header_a(octets.as_ptr(), octets.len(), rounds) }
+}
+pub fn time_address(octets: &[u8], rounds: u64) -> u64 {
+    unsafe { raw::time_address(octets.as_ptr(), octets.len(), rounds) }
+}
+pub fn time_copy(to: &mut [u8], from: &[u8], places: &[u8], rounds: u64) {
+    unsafe {
+        raw::time_copy(
+            to.as_mut_ptr(),
+            to.len(),
+            from.as_ptr(),
+            from.len(),
+            places.as_ptr(),
+            places.len(),
+            rounds,
+        );
+    }
+}
