@@ -1,0 +1,39 @@
+-- 01, *Encode*: Pch 3; echo over 127 11; Begin identity 2; Begin bit count over its room 13; set bit past 8 times the
+-- octet count 7; Continue number over 25 12. Assumes nothing.
+use mathlib.Core.Bool.{Bool, not}
+use Prim.Native.Nat.{ℕ, _*_}
+use lib.Dec.{eqb, ltb}
+use lib.ListN.{drop}
+use Rattle.field.specs.Layout.{anySet}
+use Rattle.rach.specs.Identity.{encodable}
+use Rattle.spach.specs.Refusal.{Outcome, gives, refuse}
+use Rattle.spach.specs.Header.{usageOf}
+use Rattle.arq.specs.declared.FrameKind.{FrameKind}
+use Rattle.arq.specs.declared.FrameKind.the-variants.{Begin, Continue}
+use Rattle.arq.specs.declared.ArqHeader.{ArqHeader}
+use Rattle.arq.specs.declared.ArqFrame.{ArqFrame}
+use Rattle.arq.specs.declared.PackedFrame.{PackedFrame}
+use Rattle.arq.specs.Frame.{room, beginData, beginFrame, continueFrame}
+
+-- Pch 3; echo over 127 11; else what follows
+abbrev pub headerChecked : {A : Type 0} → ArqHeader → Outcome A → Outcome A
+headerChecked h o = refuse (eqb (usageOf (h .channel)) 7) 3 (refuse (ltb 127 (h .«partial_echo»)) 11 o)
+
+abbrev pub encodeBegin : ArqFrame → Outcome PackedFrame
+encodeBegin f =
+    refuse (not (encodable (f .identity))) 2
+    (refuse (ltb (room (f .identity)) (f .«begin_bits»)) 13
+    (refuse (anySet (drop (8 * f .«message_octets») (beginData f))) 7
+    (gives (beginFrame f))))
+
+abbrev pub encodeContinue : ArqFrame → Outcome PackedFrame
+encodeContinue f =
+    refuse (ltb 25 (f .«frame_number»)) 12
+    (gives (continueFrame f))
+
+abbrev pub byKind : {A : Type 0} → FrameKind → A → A → A
+byKind Begin a b = a
+byKind Continue a b = b
+
+unfoldable pub encodeOf : ArqFrame → Outcome PackedFrame
+encodeOf f = headerChecked (f .header) (byKind (f .kind) (encodeBegin f) (encodeContinue f))

@@ -1,0 +1,114 @@
+-- 01, module 3: the frames Begin and Continue, laid out bit by bit. Assumes nothing.
+use mathlib.Core.Bool.{Bool, true, false}
+use mathlib.Core.List.{List, [], _∷_, _++_}
+use Prim.Native.Nat.{ℕ, _-_}
+use lib.ListN.{take, replicate}
+use Rattle.field.specs.Bits.{bit, bitsOf, octets}
+use Rattle.field.specs.Layout.{layout, upTo}
+use Rattle.rach.specs.Identity.{typeOf, widthOf}
+use Rattle.rach.specs.declared.MobileIdentity.{MobileIdentity}
+use Rattle.rach.specs.declared.MobileIdentity.the-variants.{Tmsi20}
+use Rattle.spach.specs.declared.Channel.the-variants.{Arch}
+use Rattle.spach.specs.Header.{headerA, headerB, address}
+use Rattle.arq.specs.declared.ResponseMode.{ResponseMode}
+use Rattle.arq.specs.declared.ResponseMode.the-variants.{Contention, Reservation}
+use Rattle.arq.specs.declared.FrameKind.the-variants.{Begin, Continue}
+use Rattle.arq.specs.declared.ArqHeader.{ArqHeader}
+use Rattle.arq.specs.declared.ArqFrame.{ArqFrame}
+use Rattle.arq.specs.declared.PackedFrame.{PackedFrame}
+
+-- response mode: 0 Contention, 1 Reservation
+abbrev pub modeOf : ResponseMode → ℕ
+modeOf Contention = 0
+modeOf Reservation = 1
+
+-- what both kinds have after their address: echo 7 bits, reserved 2, polling, response mode
+abbrev pub control : ArqHeader → List (ℕ × ℕ)
+control h =
+    (7, h .«partial_echo»)
+    ∷ (2, 0)
+    ∷ (1, bit (h .polling))
+    ∷ (1, modeOf (h .«response_mode»))
+    ∷ []
+
+-- a Begin up to its data: header A, header B with kind 5, address, the rest with octet count 8
+abbrev pub begin : ArqHeader → MobileIdentity → ℕ → List (ℕ × ℕ)
+begin h i n = headerA (h .channel) (h .flags) ++ headerB 5 (typeOf i) (h .flags) ++ address i ++ control h ++ (8, n) ∷ []
+
+-- a Continue up to its data: header A, header B with kind 6, the rest with number 5
+abbrev pub continue : ArqHeader → ℕ → ℕ → List (ℕ × ℕ)
+continue h t k = headerA (h .channel) (h .flags) ++ headerB 6 t (h .flags) ++ control h ++ (5, k) ∷ []
+
+-- Begin data holds 75 − width bits: 55, 51, 41, 25
+abbrev pub room : MobileIdentity → ℕ
+room i = 75 - widthOf (typeOf i)
+
+-- the data bits that are read of a frame: as many as a Begin's bit count says, a Continue's 79
+abbrev pub beginData : ArqFrame → List Bool
+beginData f = take (f .«begin_bits») (bitsOf (f .«begin_data»))
+
+abbrev pub continueData : ArqFrame → List Bool
+continueData f = take 79 (bitsOf (f .«continue_data»))
+
+-- 109 bits in 14 octets, zero filled: the last three bits are padding and zero
+unfoldable pub packed : List Bool → PackedFrame
+packed bs = record { octets = octets 14 (upTo 112 bs) }
+
+unfoldable pub beginFrame : ArqFrame → PackedFrame
+beginFrame f = packed (layout (begin (f .header) (f .identity) (f .«message_octets»)) ++ beginData f)
+
+unfoldable pub continueFrame : ArqFrame → PackedFrame
+continueFrame f = packed (layout (continue (f .header) (f .«identity_type») (f .«frame_number»)) ++ continueData f)
+
+-- frames as they are given out: unread bits are zero, and so are the fields that only the other kind has
+abbrev pub aBegin : ArqHeader → MobileIdentity → ℕ → ℕ → List Bool → ArqFrame
+aBegin h i n bits data-bits = record {
+  kind = Begin;
+  header = h;
+  identity = i;
+  «message_octets» = n;
+  «begin_data» = octets 7 (upTo 56 data-bits);
+  «begin_bits» = bits;
+  «identity_type» = 0;
+  «frame_number» = 0;
+  «continue_data» = replicate 10 0;
+}
+
+abbrev pub aContinue : ArqHeader → ℕ → ℕ → List Bool → ArqFrame
+aContinue h t k data-bits = record {
+  kind = Continue;
+  header = h;
+  identity = Tmsi20 0;
+  «message_octets» = 0;
+  «begin_data» = replicate 7 0;
+  «begin_bits» = 0;
+  «identity_type» = t;
+  «frame_number» = k;
+  «continue_data» = octets 10 (upTo 80 data-bits);
+}
+
+-- the blank packed frame and the blank frame, which stand beside a refusal
+abbrev pub blankPacked : PackedFrame
+blankPacked = record { octets = replicate 14 0 }
+
+abbrev pub blankHeader : ArqHeader
+blankHeader = record {
+  channel = Arch;
+  flags = record { «pch_continuation» = false; «bcch_change» = false; «paging_frame_modifier» = false; «reservation_response» = false };
+  «partial_echo» = 0;
+  polling = false;
+  «response_mode» = Contention;
+}
+
+abbrev pub blankFrame : ArqFrame
+blankFrame = record {
+  kind = Begin;
+  header = blankHeader;
+  identity = Tmsi20 0;
+  «message_octets» = 0;
+  «begin_data» = replicate 7 0;
+  «begin_bits» = 0;
+  «identity_type» = 0;
+  «frame_number» = 0;
+  «continue_data» = replicate 10 0;
+}

@@ -1,0 +1,4 @@
+pub mod Frame
+pub mod Encode
+pub mod Decode
+pub mod Cut
