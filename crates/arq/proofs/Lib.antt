@@ -1,1 +1,4 @@
 pub mod Samples
+pub mod Data
+pub mod Cuts
+pub mod Theorems
