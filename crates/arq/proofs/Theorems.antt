@@ -1,17 +1,31 @@
 -- What holds of encode, decode and the cut, beside their definitions. Assumes nothing.
 use mathlib.Core.Path.{_≡_}
 use mathlib.Core.List.{List}
-use Prim.Native.Nat.{ℕ, _+_, _*_, _≤_, _<_}
+use Prim.Native.Nat.{ℕ, _+_, _*_, _^_, _≤_, _<_}
 use lib.ListN.{length, take}
 use Rattle.field.specs.Bits.{bitsOf, octets}
 use Rattle.field.specs.Layout.{upTo}
 use Rattle.field.proofs.Laws.{Octets}
 use Rattle.rach.specs.declared.MobileIdentity.{MobileIdentity}
+use Rattle.spach.specs.Refusal.{gives}
 use Rattle.arq.specs.declared.ArqHeader.{ArqHeader}
+use Rattle.arq.specs.declared.ArqFrame.{ArqFrame}
+use Rattle.arq.specs.declared.PackedFrame.{PackedFrame}
 use Rattle.arq.specs.Frame.{room}
-use Rattle.arq.specs.Cut.{continues}
-use Rattle.arq.specs.Round.{carried}
+use Rattle.arq.specs.Encode.{encodeOf}
+use Rattle.arq.specs.Decode.{decodeOf}
+use Rattle.arq.specs.Cut.{continues, frameOf}
+use Rattle.arq.specs.Round.{heard, normal, widened, carried}
 use Rattle.arq.proofs.Cuts.{carries, carries-all, carries-octets, count-holds, count-least, count-most}
+use Rattle.arq.proofs.Round.{encode-back, cut-back}
+
+-- What encode accepts decodes to the same frame. The premise holds of every frame: its octet count is one octet.
+pub there-and-back : (f : ArqFrame) (p : PackedFrame) → f .«message_octets» < 2 ^ 8 → encodeOf f ≡ gives p → decodeOf (p .octets) ≡ gives (normal f)
+there-and-back = encode-back
+
+-- "What `fragment_message` yields decodes to itself, Begin data widened by zeros."
+pub cut-heard : (h : ArqHeader) (i : MobileIdentity) (m : List ℕ) (k : ℕ) (f : ArqFrame) → frameOf h i m k ≡ gives f → heard f ≡ gives (widened f)
+cut-heard = cut-back
 
 -- "Begin data holds 75 − width bits: 55, 51, 41, 25. The rest goes on in message order, 79 bits a Continue, numbered
 -- from 0, zero filled."
@@ -22,9 +36,9 @@ cut-in-order = carries
 pub cut-whole : (h : ArqHeader) (i : MobileIdentity) (m : List ℕ) → take (8 * length m) (carried h i m (continues i (length m))) ≡ bitsOf m
 cut-whole = carries-all
 
-pub cut-back : (h : ArqHeader) (i : MobileIdentity) (m : List ℕ) → Octets m
+pub cut-octets : (h : ArqHeader) (i : MobileIdentity) (m : List ℕ) → Octets m
     → octets (length m) (take (8 * length m) (carried h i m (continues i (length m)))) ≡ m
-cut-back = carries-octets
+cut-octets = carries-octets
 
 -- "Invented frame counts, by the cut's rule": the count is the least whose frames have room for the message
 pub cut-holds : (i : MobileIdentity) (n : ℕ) → 8 * n ≤ room i + 79 * continues i n
