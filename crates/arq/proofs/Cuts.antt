@@ -1,22 +1,21 @@
 -- The frames of a cut hold the message's bits, in as few Continues as there can be. Assumes nothing.
-use mathlib.Core.Path.{_≡_, refl, sym, ap, ap₂, _∙_}
+use mathlib.Core.Path.{_≡_, sym, ap, ap₂, _∙_}
 use mathlib.Core.Bool.{Bool}
 use mathlib.Core.List.{List, _++_}
-use Prim.Native.Nat.{ℕ, zero, suc, _+_, _-_, _*_, _/_, _≤_, _<_, min}
+use Prim.Native.Nat.{ℕ, suc, _+_, _*_, _≤_, _<_, min}
 use native.Mathlib.Omega.{arith}
 use lib.ListN.{length, take, drop, length-take}
 use Rattle.field.specs.Bits.{bitsOf, octets}
-use Rattle.field.specs.Layout.{upTo, joined}
+use Rattle.field.specs.Layout.{upTo}
 use Rattle.field.proofs.Laws.{Octets, length-bitsOf, octets-bitsOf}
-use Rattle.field.proofs.Cuts.{length-upTo, take-upTo, rejoin}
-use Rattle.rach.specs.Identity.{typeOf, widthOf}
+use Rattle.field.proofs.Cuts.{length-upTo, take-upTo, upTo-of-take, bits-kept, joined-same, rejoin}
+use Rattle.rach.specs.Identity.{typeOf}
 use Rattle.rach.specs.declared.MobileIdentity.{MobileIdentity}
 use Rattle.rach.proofs.Laws.{width-least, width-most}
 use Rattle.arq.specs.declared.ArqHeader.{ArqHeader}
 use Rattle.arq.specs.Frame.{room, beginData, continueData}
 use Rattle.arq.specs.Cut.{continues, cutFrame}
 use Rattle.arq.specs.Round.{carried}
-use Rattle.arq.proofs.Data.{upTo-of-take, joined-same, kept}
 
 -- a Begin has room for 25 to 55 bits
 pub room-least : (i : MobileIdentity) → 25 ≤ room i
@@ -40,13 +39,13 @@ module _ (h : ArqHeader) (i : MobileIdentity) (m : List ℕ) where
   pub begin-holds : beginData (cutFrame h i m 0) ≡ take (room i) (bitsOf m)
   begin-holds =
       let e : length (take (room i) (bitsOf m)) ≡ min (8 * length m) (room i) = simp (length-take, length-bitsOf) (omega arith) in
-      kept 7 (min (8 * length m) (room i)) (take (room i) (bitsOf m)) e (omega (arith, room-most i))
+      bits-kept 7 (min (8 * length m) (room i)) (take (room i) (bitsOf m)) e (omega (arith, room-most i))
 
   -- what its Continue k holds: the next 79 bits, filled with zeros
   pub continue-holds : (k : ℕ) → continueData (cutFrame h i m (suc k)) ≡ upTo 79 (drop (room i + 79 * k) (bitsOf m))
   continue-holds k =
       let bs : List Bool = upTo 79 (drop (room i + 79 * k) (bitsOf m)) in
-      kept 10 79 bs (length-upTo 79 (drop (room i + 79 * k) (bitsOf m))) (omega arith)
+      bits-kept 10 79 bs (length-upTo 79 (drop (room i + 79 * k) (bitsOf m))) (omega arith)
 
   -- the frames carry the message's bits, filled with zeros
   pub carries : (c : ℕ) → carried h i m c ≡ upTo (room i + 79 * c) (bitsOf m)

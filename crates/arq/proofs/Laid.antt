@@ -1,40 +1,31 @@
 -- What encode lays is what decode reads. Assumes nothing.
-use mathlib.Core.Path.{_≡_, refl, sym, ap, ap₂, _∙_}
+use mathlib.Core.Path.{_≡_, refl, sym, ap, _∙_}
 use mathlib.Core.Bool.{Bool, true, false, cond, not}
 use mathlib.Core.List.{List, [], _∷_, _++_, append-assoc}
-use Prim.Native.Nat.{ℕ, zero, suc, _+_, _-_, _*_, _%_, _^_, _≤_, _<_}
-use native.Mathlib.Nat.{mod-eq-of-lt, add-zero}
+use Prim.Native.Nat.{ℕ, _+_, _*_, _%_, _^_, _≤_, _<_}
+use native.Mathlib.Nat.{mod-eq-of-lt}
 use native.Mathlib.Omega.{arith}
-use lib.Dec.{eqb, ltb}
-use lib.ListN.{length, take, drop, length-append, length-take, drop-of-length-le}
+use lib.Dec.{eqb}
+use lib.ListN.{length, take, drop, length-append, drop-of-length-le}
 use lib.Seq.{take-at, drop-at}
-use borrow.Author.Tests.{eq-eqb, ne-eqb, le-ltb, ltb-false}
+use borrow.Author.Tests.{le-ltb}
 use Rattle.field.specs.Bits.{bit, value, bitsOf, octets, field}
 use Rattle.field.specs.Layout.{layout, zeros, upTo, anySet}
-use Rattle.field.proofs.Laws.{field-right, length-octets, length-bitsOf}
-use Rattle.field.proofs.Layouts.{total, length-layout, place, width, number, field-layout}
-use Rattle.field.proofs.Cuts.{length-upTo, upTo-nil, upTo-add}
-use Rattle.rach.specs.Identity.{typeOf, valueOf, widthOf, identityOf, encodable}
+use Rattle.field.proofs.Laws.{field-right, length-octets}
+use Rattle.field.proofs.Layouts.{total, length-layout, place, width, number, layout-append, field-layout}
+use Rattle.field.proofs.Cuts.{length-upTo, upTo-nil, upTo-add, upTo-append, upTo-twice, bitsOf-filled, anySet-upTo}
+use Rattle.rach.specs.Identity.{typeOf, widthOf, encodable}
 use Rattle.rach.specs.declared.MobileIdentity.{MobileIdentity}
-use Rattle.rach.proofs.Laws.{type-lt, width-most, identity-parts, range-in}
-use Rattle.spach.specs.declared.HeaderFlags.{HeaderFlags}
+use Rattle.rach.proofs.Laws.{width-most}
 use Rattle.spach.specs.declared.HeaderA.{HeaderA}
-use Rattle.spach.specs.Refusal.{Outcome, gives, refuses}
+use Rattle.spach.specs.Refusal.{gives}
 use Rattle.spach.specs.Header.{usageOf, headerA, headerB, address, isSet, headerAAt, addressAt}
-use Rattle.spach.proofs.Laws.{address-identity, identity-read}
-use Rattle.spach.proofs.Laid.{flag-laid, withoutResponse, header-a-laid}
+use Rattle.spach.proofs.Laid.{flag-laid, withoutResponse, header-a-laid, address-reads}
 use Rattle.arq.specs.declared.ResponseMode.{ResponseMode}
 use Rattle.arq.specs.declared.ResponseMode.the-variants.{Contention, Reservation}
-use Rattle.arq.specs.declared.FrameKind.{FrameKind}
-use Rattle.arq.specs.declared.FrameKind.the-variants.{Begin, Continue}
 use Rattle.arq.specs.declared.ArqHeader.{ArqHeader}
-use Rattle.arq.specs.declared.ArqFrame.{ArqFrame}
-use Rattle.arq.specs.declared.PackedFrame.{PackedFrame}
-use Rattle.arq.specs.Frame.{modeOf, control, begin, continue, room, beginData, continueData, packed, beginFrame, continueFrame, aBegin, aContinue}
-use Rattle.arq.specs.Encode.{encodeOf, encodeBegin, encodeContinue, byKind}
+use Rattle.arq.specs.Frame.{modeOf, control, begin, continue, room, packed, aBegin, aContinue}
 use Rattle.arq.specs.Decode.{headerAt, decodeKind, decodeOf}
-use Rattle.arq.proofs.Data.{bitsOf-filled, layout-append, upTo-append, upTo-twice, anySet-upTo}
-use Rattle.arq.proofs.Outcomes.{passed}
 
 -- a response mode that was laid
 pub mode-laid : (m : ResponseMode) {x : ℕ} → x ≡ modeOf m % 2 ^ 1 → cond (not (eqb x 0)) Reservation Contention ≡ m
@@ -107,20 +98,6 @@ pub kind-continue : (a : HeaderA) (bs : List Bool) {h : ArqHeader} {t k : ℕ} {
     → decodeKind a bs ≡ gives (aContinue h t k d)
 kind-continue a bs ek er en l eh et ed = rw (ek, er, en, le-ltb _ _ l, eh, et, ed)
 
--- an address by its fields
-pub address-reads : (o : ℕ) (bs : List Bool) (i : MobileIdentity) (r : Bool) → encodable i ≡ true → field o 2 bs ≡ typeOf i % 2 ^ 2
-    → field (o + 2) 1 bs ≡ 0 → field (o + 3) 1 bs ≡ bit r % 2 ^ 1 → field (o + 4) 1 bs ≡ 0
-    → field (o + 5) (widthOf (typeOf i)) bs ≡ valueOf i % 2 ^ widthOf (typeOf i)
-    → addressAt o bs ≡ gives (record { identity = i; «reservation_response» = r; reader = record { offset = o + 5 + widthOf (typeOf i) } })
-unfolding encodable
-address-reads o bs i r h et ex er ey ei =
-    let p = range-in (valueOf i) (widthOf (typeOf i)) h in
-    let type : typeOf i ≡ field o 2 bs = sym (et ∙ mod-eq-of-lt (type-lt i)) in
-    let value : valueOf i ≡ field (o + 5) (widthOf (typeOf i)) bs = sym (ei ∙ mod-eq-of-lt (p .1)) in
-    let some : valueOf i ≡ 0 → ⊥ = λ e. omega arith in
-    sym (address-identity o bs type (sym ex) refl (sym ey) refl refl refl)
-    ∙ rw (flag-laid r er) (sym (identity-read (o + 5) bs (typeOf i) r refl value some (sym (identity-parts i)) refl))
-
 -- a Begin by its fields
 pub kind-begin : (a : HeaderA) (bs : List Bool) (i : MobileIdentity) (r : Bool) (o : ℕ) {h : ArqHeader} {n : ℕ} {d : List Bool} → field 7 3 bs ≡ 5
     → addressAt 10 bs ≡ gives (record { identity = i; «reservation_response» = r; reader = record { offset = o } })
@@ -130,10 +107,10 @@ pub kind-begin : (a : HeaderA) (bs : List Bool) (i : MobileIdentity) (r : Bool) 
 kind-begin a bs i r o ek ea er en ed ef eh = rw (ek, ea, er, en, ed, ef, eh)
 
 module _ (h : ArqHeader) (usage : eqb (usageOf (h .channel)) 7 ≡ false) (echo : h .«partial_echo» < 2 ^ 7) where
-  -- a Continue, laid and heard
-  pub continue-heard : (t k : ℕ) (d : List Bool) → k ≤ 25 → length d ≤ 79
+  -- a Continue, laid and decoded
+  pub continue-decoded : (t k : ℕ) (d : List Bool) → k ≤ 25 → length d ≤ 79
       → decodeOf (packed (layout (continue h t k) ++ d) .octets) ≡ gives (aContinue h (t % 4) k d)
-  continue-heard t k d l fits =
+  continue-decoded t k d l fits =
       let fs : List (ℕ × ℕ) = continue h t k in
       let bs : List Bool = layout fs ++ (upTo 79 d ++ zeros 3) in
       let at : (j : ℕ) → j < 14 → _ = λ j m. field-layout fs (upTo 79 d ++ zeros 3) j m in
@@ -144,11 +121,11 @@ module _ (h : ArqHeader) (usage : eqb (usageOf (h .channel)) 7 ≡ false) (echo 
       (data-laid fs 79 d refl fits 30 refl)
       ∙ rw (upTo-twice 80 79 d fits)
 
-  -- a Begin, laid and heard
-  pub begin-heard : (i : MobileIdentity) (n : ℕ) (d : List Bool) → encodable i ≡ true → n < 2 ^ 8 → length d ≤ room i → anySet (drop (8 * n) d) ≡ false
+  -- a Begin, laid and decoded
+  pub begin-decoded : (i : MobileIdentity) (n : ℕ) (d : List Bool) → encodable i ≡ true → n < 2 ^ 8 → length d ≤ room i → anySet (drop (8 * n) d) ≡ false
       → decodeOf (packed (layout (begin h i n) ++ d) .octets) ≡ gives (aBegin h i n (room i) d)
   unfolding encodable
-  begin-heard i n d en l fits clear =
+  begin-decoded i n d en l fits clear =
       let fs : List (ℕ × ℕ) = begin h i n in
       let w : ℕ = widthOf (typeOf i) in
       let t : List Bool = upTo (room i) d ++ zeros 3 in

@@ -13,10 +13,10 @@ use Rattle.arq.specs.Decode.{decodeOf}
 use Rattle.arq.specs.Cut.{cutFrame}
 
 -- a frame encoded, and its octets decoded
-abbrev pub heard : ArqFrame → Outcome ArqFrame
-heard f = andThen (encodeOf f) (λ p. decodeOf (p .octets))
+abbrev pub thereAndBack : ArqFrame → Outcome ArqFrame
+thereAndBack f = andThen (encodeOf f) (λ p. decodeOf (p .octets))
 
--- a frame as it is heard: Begin data widened by zeros to the room, the low two bits of a Continue's type, and
+-- a frame as it comes back: Begin data widened by zeros to the room, the low two bits of a Continue's type, and
 -- nothing of what is not read
 abbrev pub normal : ArqFrame → ArqFrame
 normal f =

@@ -5,7 +5,7 @@ use Prim.Native.Nat.{ℕ, zero, suc, _^_, _<_, _≤_}
 use native.Mathlib.Omega.{arith}
 use lib.Dec.{eqb, ltb}
 use borrow.Author.Tests.{eqb-true, eq-eqb, ne-eqb, ltb-true, lt-ltb}
-use Rattle.rach.specs.Identity.{typeOf, valueOf, widthOf, identityOf, partsOf, same, inRange}
+use Rattle.rach.specs.Identity.{typeOf, valueOf, widthOf, identityOf, partsOf, same, inRange, encodable}
 use Rattle.rach.specs.declared.IdentityParts.{IdentityParts}
 use Rattle.rach.specs.declared.MobileIdentity.{MobileIdentity}
 use Rattle.rach.specs.declared.MobileIdentity.the-variants.{Tmsi20, Tmsi24, Min34, Imsi50}
@@ -106,3 +106,10 @@ unfolding inRange
 range-in v w e =
     let p = both (ltb 0 v) (ltb v (2 ^ w)) e in
     (ltb-true 0 v (p .0), ltb-true v (2 ^ w) (p .1))
+
+-- the identity of a type and of a value in its range can be encoded
+pub identity-encodable : (t v : ℕ) → t < 4 → (v ≡ 0 → ⊥) → v < 2 ^ widthOf t → encodable (identityOf t v) ≡ true
+unfolding encodable
+identity-encodable t v l n h =
+    let p : 0 < v = omega arith in
+    rw (type-identity t v l, value-identity t v) (in-range v (widthOf t) p h)
