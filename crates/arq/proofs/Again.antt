@@ -6,12 +6,12 @@ use Prim.Native.Nat.{ℕ, zero, suc, _+_, _-_, _*_, _^_, _≤_, _<_}
 use native.Mathlib.Nat.{add-assoc}
 use native.Mathlib.Omega.{arith}
 use lib.Dec.{eqb, ltb}
-use lib.ListN.{length, take, drop, length-append, length-drop, take-append-drop}
-use lib.Seq.{take-all, drop-drop}
+use lib.ListN.{length, take, drop, length-append, length-drop}
+use lib.Seq.{take-all}
 use borrow.Author.Tests.{eqb-true, not-false, ltb-false}
 use Rattle.field.specs.Bits.{bit, bits, value, bitsOf, octets, field, put}
 use Rattle.field.specs.Layout.{layout, zeros, upTo, anySet}
-use Rattle.field.proofs.Laws.{Octets, field-lt, length-field, length-put, put-field, value-inj, length-bitsOf, octets-bitsOf}
+use Rattle.field.proofs.Laws.{Octets, field-lt, length-field, length-put, put-field, run-and-rest, value-inj, length-bitsOf, octets-bitsOf}
 use Rattle.field.proofs.Layouts.{layout-append, reads, sum, layout-reads}
 use Rattle.field.proofs.Cuts.{upTo-fill}
 use Rattle.rach.specs.Identity.{typeOf, valueOf, widthOf, identityOf, encodable}
@@ -53,6 +53,7 @@ pub record Again (bs : List Bool) (f : ArqFrame) : Type 0 where
 
 -- the bits of a frame: 112, the last three not set
 module _ (bs : List Bool) (size : length bs ≡ 112) (padding : field 109 3 bs ≡ 0) where
+  -- the padding is three zeros
   last-unset : zeros 3 ≡ drop 109 bs
   unfolding field value
   last-unset =
@@ -70,26 +71,22 @@ module _ (bs : List Bool) (size : length bs ≡ 112) (padding : field 109 3 bs �
       let f : layout front ≡ take 12 bs = ap layout ef ∙ layout-reads (3 ∷ 1 ∷ 1 ∷ 1 ∷ 1 ∷ 3 ∷ 2 ∷ []) 0 bs (omega arith) in
       let g : layout rest ≡ take (sum ws) (drop 13 bs) = ap layout er ∙ layout-reads ws 13 bs (omega arith) in
       let l : layout (front ++ (1, 0) ∷ rest) ≡ take 12 bs ++ (bits 1 0 ++ take (sum ws) (drop 13 bs)) = layout-append front ((1, 0) ∷ rest) ∙ rw (f, g) in
-      let d : take r (drop q bs) ++ drop 109 bs ≡ drop q bs =
-      ap (λ (n : ℕ). take r (drop q bs) ++ drop n bs) (sym whole)
-      ∙ ap (λ (t : List Bool). take r (drop q bs) ++ t) (sym (drop-drop r q bs))
-      ∙ take-append-drop r (drop q bs) in
-      let t : take (sum ws) (drop 13 bs) ++ drop q bs ≡ drop 13 bs =
-      ap (λ (n : ℕ). take (sum ws) (drop 13 bs) ++ drop n bs) (sym eq)
-      ∙ ap (λ (t : List Bool). take (sum ws) (drop 13 bs) ++ t) (sym (drop-drop (sum ws) 13 bs))
-      ∙ take-append-drop (sum ws) (drop 13 bs) in
+      let d : take r (drop q bs) ++ drop 109 bs ≡ drop q bs = rw whole at (run-and-rest q r bs) in
+      let t : take (sum ws) (drop 13 bs) ++ drop q bs ≡ drop 13 bs = rw eq at (run-and-rest 13 (sum ws) bs) in
       let same : all ++ drop 109 bs ≡ put 12 1 0 bs = rw l (simp append-assoc (rw (d, t))) in
       let n : length all ≡ 109 = omega (arith, ap length same, length-append all (drop 109 bs), length-drop 109 bs, length-put 12 1 bs (omega arith) 0) in
       let u : upTo 112 all ≡ put 12 1 0 bs =
       upTo-fill 112 all (omega arith) ∙ ap (λ (k : ℕ). all ++ zeros (112 - k)) n ∙ ap (λ (z : List Bool). all ++ z) last-unset ∙ same in
       rw u
 
-  -- from here on header A was read
+  -- header A was read of them
   module _ (a : HeaderA) (opened : headerAAt 0 bs ≡ gives a) (usage : eqb (usageOf (a .channel)) 7 ≡ false) where
+    -- the table up to the identity type
     front-given : {k t : ℕ} → field 7 3 bs ≡ k → field 10 2 bs ≡ t → headerA (a .channel) (a .flags) ++ (3, k) ∷ (2, t) ∷ [] ≡ reads (3 ∷ 1 ∷ 1 ∷ 1 ∷ 1 ∷ 3 ∷ 2 ∷ []) 0 bs
     front-given {k} {t} ek et =
         ap (λ (l : List (ℕ × ℕ)). l ++ (3, k) ∷ (2, t) ∷ []) (header-a-given bs a (omega arith) opened) ∙ rw (ek, et)
 
+    -- the reservation response
     response-given : bit (isSet 13 bs) ≡ field 13 1 bs
     response-given = flag-read (field 13 1 bs) (field-lt 13 1 bs (omega arith))
 
@@ -113,7 +110,7 @@ module _ (bs : List Bool) (size : length bs ≡ 112) (padding : field 109 3 bs �
               refl refl));
         }
 
-    -- a Begin's table after the bit after the identity type
+    -- a Begin's table from the reservation response on
     rest-given : (i : MobileIdentity) (w : ℕ) → widthOf (typeOf i) ≡ w → valueOf i ≡ field 15 w bs → field 14 1 bs ≡ 0 → w ≤ 50 → field (15 + w + 7) 2 bs ≡ 0
         → (1, bit (isSet 13 bs)) ∷ (1, 0) ∷ (widthOf (typeOf i), valueOf i) ∷ (control (headerAt a (isSet 13 bs) (15 + w) bs) ++ (8, field (15 + w + 11) 8 bs) ∷ [])
         ≡ reads (1 ∷ 1 ∷ w ∷ 7 ∷ 2 ∷ 1 ∷ 1 ∷ 8 ∷ []) 13 bs

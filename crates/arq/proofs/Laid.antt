@@ -42,11 +42,12 @@ pub header-laid : (h : ArqHeader) (o : ℕ) (bs : List Bool) {r : Bool} → r �
     → headerAt (headerAOf h) r o bs ≡ h
 header-laid h o bs er ee ep em = rw (er, ee, flag-laid (h .polling) ep, mode-laid (h .«response_mode») em)
 
--- a table and its data in a packed frame: 109 bits, the data filled with zeros, and three bits of padding
+-- a table and its data in a packed frame, 109 bits in all
 module _ (fs : List (ℕ × ℕ)) (r : ℕ) (d : List Bool) (whole : total fs + r ≡ 109) (fits : length d ≤ r) where
   abbrev pub laid : List Bool
   laid = layout fs ++ (upTo r d ++ zeros 3)
 
+  -- its bits: the table, the data filled with zeros, and three bits of padding
   pub packed-bits : bitsOf (packed (layout fs ++ d) .octets) ≡ laid
   unfolding packed
   packed-bits =
@@ -57,6 +58,7 @@ module _ (fs : List (ℕ × ℕ)) (r : ℕ) (d : List Bool) (whole : total fs + 
       ∙ upTo-append (layout fs) d (r + 3)
       ∙ ap (λ (l : List Bool). layout fs ++ l) (upTo-add r 3 d ∙ ap (λ (l : List Bool). upTo r d ++ l) (ap (upTo 3) e ∙ upTo-nil 3))
 
+  -- the padding reads as 0
   pub padding-laid : field 109 3 laid ≡ 0
   unfolding field value
   padding-laid =
@@ -65,17 +67,19 @@ module _ (fs : List (ℕ × ℕ)) (r : ℕ) (d : List Bool) (whole : total fs + 
       ∙ ap (λ (m : ℕ). field m 3 ((layout fs ++ upTo r d) ++ zeros 3)) n
       ∙ field-right 0 3 (layout fs ++ upTo r d) (zeros 3)
 
+  -- the data, read from the table's end on
   pub data-laid : (o : ℕ) → total fs ≡ o → take r (drop o laid) ≡ upTo r d
   data-laid o e =
       ap (take r) (drop-at (layout fs) (upTo r d ++ zeros 3) o (length-layout fs ∙ e))
       ∙ take-at (upTo r d) (zeros 3) r (length-upTo r d)
 
--- a frame that is decoded up to its kind
+-- octets, decoded up to the kind
 pub decode-opens : (xs : List ℕ) (bs : List Bool) {a : HeaderA} → length xs ≡ 14 → bitsOf xs ≡ bs → field 109 3 bs ≡ 0
     → headerAAt 0 bs ≡ gives a → eqb (usageOf (a .channel)) 7 ≡ false → decodeOf xs ≡ decodeKind a bs
 unfolding decodeOf
 decode-opens xs bs n b p e u = rw (b, n, p, e, u)
 
+-- a packed frame, decoded up to the kind: what is left is to read the rest of the table and the data
 pub opens : (h : ArqHeader) (fs : List (ℕ × ℕ)) (r : ℕ) (d : List Bool) → total (headerA (h .channel) (h .flags) ++ fs) + r ≡ 109 → length d ≤ r
     → eqb (usageOf (h .channel)) 7 ≡ false
     → decodeOf (packed (layout (headerA (h .channel) (h .flags) ++ fs) ++ d) .octets)
@@ -124,7 +128,6 @@ module _ (h : ArqHeader) (usage : eqb (usageOf (h .channel)) 7 ≡ false) (echo 
   -- a Begin, laid and decoded
   pub begin-decoded : (i : MobileIdentity) (n : ℕ) (d : List Bool) → encodable i ≡ true → n < 2 ^ 8 → length d ≤ room i → anySet (drop (8 * n) d) ≡ false
       → decodeOf (packed (layout (begin h i n) ++ d) .octets) ≡ gives (aBegin h i n (room i) d)
-  unfolding encodable
   begin-decoded i n d en l fits clear =
       let fs : List (ℕ × ℕ) = begin h i n in
       let w : ℕ = widthOf (typeOf i) in

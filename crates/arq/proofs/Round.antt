@@ -77,8 +77,8 @@ encode-back f p l e =
     go Begin u o b = begin-back f u o p l b
     go Continue u o b = continue-back f u o p b
 
--- frames given out, with all their data bits in place, are encoded
 module _ (h : ArqHeader) (usage : eqb (usageOf (h .channel)) 7 ≡ false) (echo : h .«partial_echo» < 2 ^ 7) where
+  -- a Begin that was given out, with as many data bits as it counts, is encoded
   pub begin-encoded : (i : MobileIdentity) (n b : ℕ) (d : List Bool) → encodable i ≡ true → length d ≡ b → b ≤ room i → anySet (drop (8 * n) d) ≡ false
       → encodeOf (aBegin h i n b d) ≡ gives (packed (layout (begin h i n) ++ d))
   unfolding encodeOf beginFrame
@@ -87,6 +87,7 @@ module _ (h : ArqHeader) (usage : eqb (usageOf (h .channel)) 7 ≡ false) (echo 
       let o : ltb 127 (h .«partial_echo») ≡ false = le-ltb 127 (h .«partial_echo») (omega arith) in
       rw (usage, o, en, le-ltb (room i) b l, k, clear)
 
+  -- and so is a Continue
   pub continue-encoded : (t k : ℕ) (d : List Bool) → length d ≡ 79 → k ≤ 25 → encodeOf (aContinue h t k d) ≡ gives (packed (layout (continue h t k) ++ d))
   unfolding encodeOf continueFrame
   continue-encoded t k d e l =
