@@ -1,4 +1,6 @@
 pub mod Samples
+pub mod Checks
+pub mod Written
 pub mod Cuts
 pub mod Laid
 pub mod Round

@@ -23,7 +23,7 @@ use Rattle.arq.specs.declared.ArqHeader.{ArqHeader}
 use Rattle.arq.specs.declared.ArqFrame.{ArqFrame}
 use Rattle.arq.specs.declared.PackedFrame.{PackedFrame}
 use Rattle.arq.specs.Frame.{room, begin, continue, beginData, continueData, packed, beginFrame, continueFrame, aBegin, aContinue}
-use Rattle.arq.specs.Encode.{headerChecked, encodeBegin, encodeContinue, byKind, encodeOf}
+use Rattle.arq.specs.Encode.{headerChecked, beginChecked, continueChecked, byKind, encodeOf}
 use Rattle.arq.specs.Decode.{decodeOf}
 use Rattle.arq.specs.Cut.{continues, cutFrame, frameOf}
 use Rattle.arq.specs.Round.{thereAndBack, normal, widened}
@@ -32,9 +32,9 @@ use Rattle.arq.proofs.Cuts.{room-most, count-most}
 use Rattle.arq.proofs.Laid.{begin-decoded, continue-decoded}
 
 -- a header that encode and the cut accept
-pub header-passed : {A : Type 0} (h : ArqHeader) (o : Outcome A) {a : A} → headerChecked h o ≡ gives a
+pub header-accepted : {A : Type 0} (h : ArqHeader) (o : Outcome A) {a : A} → headerChecked h o ≡ gives a
     → (eqb (usageOf (h .channel)) 7 ≡ false) × (h .«partial_echo» < 2 ^ 7) × (o ≡ gives a)
-header-passed h o e =
+header-accepted h o e =
     let p = passed (eqb (usageOf (h .channel)) 7) 3 (refuse (ltb 127 (h .«partial_echo»)) 11 o) e in
     let q = passed (ltb 127 (h .«partial_echo»)) 11 o (p .1) in
     let l : h .«partial_echo» ≤ 127 = ltb-false 127 (h .«partial_echo») (q .0) in
@@ -42,7 +42,7 @@ header-passed h o e =
 
 module _ (f : ArqFrame) (usage : eqb (usageOf (f .header .channel)) 7 ≡ false) (echo : f .header .«partial_echo» < 2 ^ 7) where
   -- a Begin that encode accepts is decoded
-  begin-back : (p : PackedFrame) → f .«message_octets» < 2 ^ 8 → encodeBegin f ≡ gives p
+  begin-back : (p : PackedFrame) → f .«message_octets» < 2 ^ 8 → beginChecked f (gives (beginFrame f)) ≡ gives p
       → decodeOf (p .octets) ≡ gives (aBegin (f .header) (f .identity) (f .«message_octets») (room (f .identity)) (beginData f))
   unfolding beginFrame
   begin-back p l e =
@@ -56,7 +56,7 @@ module _ (f : ArqFrame) (usage : eqb (usageOf (f .header .channel)) 7 ≡ false)
       rw (← same) (begin-decoded (f .header) usage echo i (f .«message_octets») (beginData f) (not-false (encodable i) (x .0)) l fits (z .0))
 
   -- and so is a Continue
-  continue-back : (p : PackedFrame) → encodeContinue f ≡ gives p
+  continue-back : (p : PackedFrame) → continueChecked f (gives (continueFrame f)) ≡ gives p
       → decodeOf (p .octets) ≡ gives (aContinue (f .header) (f .«identity_type» % 4) (f .«frame_number») (continueData f))
   unfolding continueFrame
   continue-back p e =
@@ -69,10 +69,10 @@ module _ (f : ArqFrame) (usage : eqb (usageOf (f .header .channel)) 7 ≡ false)
 pub encode-back : (f : ArqFrame) (p : PackedFrame) → f .«message_octets» < 2 ^ 8 → encodeOf f ≡ gives p → decodeOf (p .octets) ≡ gives (normal f)
 unfolding encodeOf
 encode-back f p l e =
-    let x = header-passed (f .header) (byKind (f .kind) (encodeBegin f) (encodeContinue f)) e in
+    let x = header-accepted (f .header) (byKind (f .kind) (beginChecked f (gives (beginFrame f))) (continueChecked f (gives (continueFrame f)))) e in
     go (f .kind) (x .0) (x .1) (x .2)
   where
-    go : (k : FrameKind) → eqb (usageOf (f .header .channel)) 7 ≡ false → f .header .«partial_echo» < 2 ^ 7 → byKind k (encodeBegin f) (encodeContinue f) ≡ gives p
+    go : (k : FrameKind) → eqb (usageOf (f .header .channel)) 7 ≡ false → f .header .«partial_echo» < 2 ^ 7 → byKind k (beginChecked f (gives (beginFrame f))) (continueChecked f (gives (continueFrame f))) ≡ gives p
         → decodeOf (p .octets) ≡ gives (byKind k (aBegin (f .header) (f .identity) (f .«message_octets») (room (f .identity)) (beginData f)) (aContinue (f .header) (f .«identity_type» % 4) (f .«frame_number») (continueData f)))
     go Begin u o b = begin-back f u o p l b
     go Continue u o b = continue-back f u o p b
@@ -117,7 +117,7 @@ pub cut-back : (h : ArqHeader) (i : MobileIdentity) (m : List ℕ) (k : ℕ) (f 
 unfolding frameOf
 cut-back h i m k f e =
     let x = passed (ltb 255 (length m)) 1 _ e in
-    let y = header-passed h _ (x .1) in
+    let y = header-accepted h _ (x .1) in
     let z = passed (not (encodable i)) 2 _ (y .2) in
     let v = passed (not (ltb k (1 + continues i (length m)))) 12 _ (z .1) in
     let l : length m ≤ 255 = ltb-false 255 (length m) (x .0) in

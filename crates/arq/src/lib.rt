@@ -1,7 +1,15 @@
 // ArqFrame: encode, cut and decode.
+pub mod check;
+pub mod write;
+
 use rach::MobileIdentity;
 use spach::Channel;
 use spach::HeaderFlags;
+use spach::Verdict;
+ghost use mathlib.Core.Path.{_≡_};
+ghost use Rattle.spach.specs.Refusal.{answered};
+ghost use Rattle.arq.specs.Frame.{blankPacked};
+ghost use Rattle.arq.specs.Encode.{encodeOf, encodedAnswer};
 
 pub enum ResponseMode {
     Contention,
@@ -37,4 +45,33 @@ pub struct ArqFrame {
 // 109 bits, first bit at the top of the first octet; the last three bits are padding.
 pub struct PackedFrame {
     pub octets: [u8; 14],
+}
+
+pub struct Encoded {
+    pub verdict: Verdict,
+    pub frame: PackedFrame,
+}
+
+impl ArqFrame {
+    // The packed frame, or a refusal and a blank one.
+    pub fn encode(self) -> Encoded
+        ensures { λ r. ⌜ encodedAnswer r ≡ answered blankPacked (encodeOf self) ⌝ }
+    {
+        let verdict = check::check_encode(self);
+        if let Verdict::Refused(error) = verdict {
+            return Encoded {
+                verdict: Verdict::Refused(error),
+                frame: PackedFrame { octets: [0u8; 14] },
+            };
+        }
+        let kind = self.kind;
+        let octets = match kind {
+            FrameKind::Begin => write::begin(self),
+            FrameKind::Continue => write::continue_frame(self),
+        };
+        Encoded {
+            verdict: Verdict::Accepted,
+            frame: PackedFrame { octets: octets },
+        }
+    }
 }

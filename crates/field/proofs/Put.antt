@@ -4,7 +4,7 @@ use mathlib.Core.Path.{_≡_, refl, sym, ap, ap₂, _∙_, subst}
 use mathlib.Core.Bool.{Bool}
 use mathlib.Core.List.{List, [], _∷_, _++_, append-nil, append-assoc}
 use Prim.Native.Nat.{min, ℕ, zero, suc, _+_, _-_, _*_, _/_, _%_, _^_, _≤_, _<_}
-use native.Mathlib.Nat.{zero-min, min-zero, suc-min-suc, add-comm, add-zero, add-assoc, add-mul, mul-assoc, div-one, mod-eq-of-lt, mod-lt, lt-of-lt-of-le, lt-of-le-of-lt, div-mul-le-self}
+use native.Mathlib.Nat.{zero-add, zero-min, min-zero, suc-min-suc, add-comm, add-zero, add-assoc, add-mul, mul-assoc, div-one, mod-eq-of-lt, mod-lt, lt-of-lt-of-le, lt-of-le-of-lt, div-mul-le-self}
 use native.Mathlib.Omega.{arith}
 use lib.Arith.{digits-lt}
 use lib.Pow.{pow-pos, pow-add, shr-shr, shr-lt, shl-exact, high, low, split}
@@ -226,3 +226,13 @@ take-min zero b l = rw (zero-min b)
 take-min (suc a) zero l = rw (min-zero (suc a))
 take-min (suc a) (suc b) [] = rw (take-nil (min (suc a) (suc b)))
 take-min (suc a) (suc b) (x ∷ l) = rw (suc-min-suc a b) (ap (λ (t : List Bool). x ∷ t) (take-min a b l))
+
+-- a field is a run of bits
+pub put-splice : (o w v : ℕ) (bs : List Bool) → put o w v bs ≡ splice o (bits w v) bs
+unfolding put splice
+put-splice o w v bs = rw (length-bits w v)
+
+-- a run right after what was written from the front
+pub splice-after : (p run bs : List Bool) (n : ℕ) → n ≡ length p → length p ≤ length bs → splice n run (splice 0 p bs) ≡ splice 0 (p ++ run) bs
+splice-after p run bs n e h =
+    ap (λ (m : ℕ). splice m run (splice 0 p bs)) (e ∙ sym (zero-add (length p))) ∙ splice-next 0 p run bs (rw (zero-add (length p)) h)

@@ -2,6 +2,7 @@
 ghost use mathlib.Core.Path.{_≡_};
 ghost use Prim.Native.Nat.{_+_, _-_, _*_, _/_, _%_, _^_, _≤_, _<_, min};
 ghost use lib.ListN.{length, take, drop};
+ghost use Rattle.field.specs.Layout.{anySet};
 ghost use Rattle.field.specs.Bits.{bitsOf, field, put, splice, window, Packs, Placed, Run};
 
 fn wide(x: u8) -> u64
@@ -128,4 +129,20 @@ pub fn copy_bits(dst: &mut [u8], d: usize, src: &[u8], o: usize, n: usize)
         write_field(dst, d + k, w, read_field(src, o + k, w));
         k += w;
     }
+}
+
+// Whether one of the n bits at offset o is set.
+pub fn any_set(s: &[u8], o: usize, n: usize) -> bool
+    requires { ⌜ Run (now s) o n ⌝ }
+    ensures { λ r. ⌜ r ≡ anySet (take n (drop o (bitsOf (now (s .entry))))) ⌝ }
+{
+    let mut k: usize = 0;
+    while k < n {
+        let w = step_of(n - k);
+        if read_field(s, o + k, w) != 0 {
+            return true;
+        }
+        k += w;
+    }
+    false
 }

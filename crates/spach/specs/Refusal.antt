@@ -41,3 +41,8 @@ andThen (refuses n) f = refuses n
 abbrev pub verdictOf : Verdict → Outcome Unit
 verdictOf Accepted = gives tt
 verdictOf (Refused e) = refuses (numberOf e)
+
+-- a call's answer as outcome and value: beside a refusal stands the blank value
+abbrev pub answered : {A : Type 0} → A → Outcome A → Outcome Unit × A
+answered blank (gives a) = (gives tt, a)
+answered blank (refuses n) = (refuses n, blank)
