@@ -9,12 +9,14 @@ use Rattle.rach.specs.Identity.{typeOf, widthOf}
 use Rattle.rach.specs.declared.MobileIdentity.{MobileIdentity}
 use Rattle.rach.specs.declared.MobileIdentity.the-variants.{Tmsi20}
 use Rattle.spach.specs.declared.Channel.the-variants.{Arch}
+use Rattle.spach.specs.Refusal.{Outcome, verdictOf}
 use Rattle.spach.specs.Header.{headerA, headerB, address}
 use Rattle.arq.specs.declared.ResponseMode.{ResponseMode}
 use Rattle.arq.specs.declared.ResponseMode.the-variants.{Contention, Reservation}
 use Rattle.arq.specs.declared.FrameKind.the-variants.{Begin, Continue}
 use Rattle.arq.specs.declared.ArqHeader.{ArqHeader}
 use Rattle.arq.specs.declared.ArqFrame.{ArqFrame}
+use Rattle.arq.specs.declared.FrameAnswer.{FrameAnswer}
 use Rattle.arq.specs.declared.PackedFrame.{PackedFrame}
 
 -- response mode: 0 Contention, 1 Reservation
@@ -60,22 +62,22 @@ beginFrame f = packed (layout (begin (f .header) (f .identity) (f .«message_oct
 unfoldable pub continueFrame : ArqFrame → PackedFrame
 continueFrame f = packed (layout (continue (f .header) (f .«identity_type») (f .«frame_number»)) ++ continueData f)
 
--- frames as they are given out: unread bits are zero, and so are the fields that only the other kind has
-abbrev pub aBegin : ArqHeader → MobileIdentity → ℕ → ℕ → List Bool → ArqFrame
-aBegin h i n bits data-bits = record {
+-- frames as they are given out: the fields that only the other kind has are zero (an identity: Tmsi20 of 0)
+abbrev pub aBeginOf : ArqHeader → MobileIdentity → ℕ → ℕ → List ℕ → ArqFrame
+aBeginOf h i n bits octs = record {
   kind = Begin;
   header = h;
   identity = i;
   «message_octets» = n;
-  «begin_data» = octets 7 (upTo 56 data-bits);
+  «begin_data» = octs;
   «begin_bits» = bits;
   «identity_type» = 0;
   «frame_number» = 0;
   «continue_data» = replicate 10 0;
 }
 
-abbrev pub aContinue : ArqHeader → ℕ → ℕ → List Bool → ArqFrame
-aContinue h t k data-bits = record {
+abbrev pub aContinueOf : ArqHeader → ℕ → ℕ → List ℕ → ArqFrame
+aContinueOf h t k octs = record {
   kind = Continue;
   header = h;
   identity = Tmsi20 0;
@@ -84,8 +86,15 @@ aContinue h t k data-bits = record {
   «begin_bits» = 0;
   «identity_type» = t;
   «frame_number» = k;
-  «continue_data» = octets 10 (upTo 80 data-bits);
+  «continue_data» = octs;
 }
+
+-- and unread bits are zero: data bits in 7 octets, and in 10
+abbrev pub aBegin : ArqHeader → MobileIdentity → ℕ → ℕ → List Bool → ArqFrame
+aBegin h i n bits data-bits = aBeginOf h i n bits (octets 7 (upTo 56 data-bits))
+
+abbrev pub aContinue : ArqHeader → ℕ → ℕ → List Bool → ArqFrame
+aContinue h t k data-bits = aContinueOf h t k (octets 10 (upTo 80 data-bits))
 
 -- the blank packed frame and the blank frame, which stand beside a refusal
 abbrev pub blankPacked : PackedFrame
@@ -101,14 +110,8 @@ blankHeader = record {
 }
 
 abbrev pub blankFrame : ArqFrame
-blankFrame = record {
-  kind = Begin;
-  header = blankHeader;
-  identity = Tmsi20 0;
-  «message_octets» = 0;
-  «begin_data» = replicate 7 0;
-  «begin_bits» = 0;
-  «identity_type» = 0;
-  «frame_number» = 0;
-  «continue_data» = replicate 10 0;
-}
+blankFrame = aBeginOf blankHeader (Tmsi20 0) 0 0 (replicate 7 0)
+
+-- an answer of decode or of the cut: the outcome, and the frame or, beside a refusal, the blank one
+abbrev pub frameAnswer : FrameAnswer → Outcome Unit × ArqFrame
+frameAnswer r = (verdictOf (r .verdict), r .frame)

@@ -1,5 +1,6 @@
 // ArqFrame: encode, cut and decode.
 pub mod check;
+pub mod frame;
 pub mod write;
 
 use rach::MobileIdentity;
@@ -45,6 +46,12 @@ pub struct ArqFrame {
 // 109 bits, first bit at the top of the first octet; the last three bits are padding.
 pub struct PackedFrame {
     pub octets: [u8; 14],
+}
+
+// What decode and the cut answer: beside a refusal stands the blank frame.
+pub struct FrameAnswer {
+    pub verdict: Verdict,
+    pub frame: ArqFrame,
 }
 
 pub struct Encoded {

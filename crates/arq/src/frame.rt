@@ -1,0 +1,91 @@
+// Frames as they are given out: unread bits are zero, and so are the fields that only the other kind has.
+use super::ArqFrame;
+use super::ArqHeader;
+use super::FrameAnswer;
+use super::FrameKind;
+use super::ResponseMode;
+use rach::MobileIdentity;
+use spach::Channel;
+use spach::HeaderFlags;
+use spach::SpachError;
+use spach::Verdict;
+ghost use mathlib.Core.Path.{_≡_};
+ghost use mathlib.Core.Bool.{Bool};
+ghost use mathlib.Core.List.{List};
+ghost use lib.ListN.{length};
+ghost use Rattle.field.specs.Bits.{bitsOf};
+ghost use Rattle.spach.specs.Refusal.{answered, refuses, numberOf};
+ghost use Rattle.arq.specs.Frame.{aBeginOf, aContinueOf, blankFrame, blankHeader, frameAnswer};
+
+pub fn a_begin(
+    header: ArqHeader,
+    identity: MobileIdentity,
+    message_octets: u8,
+    bits: u8,
+    octets: [u8; 7],
+) -> ArqFrame
+    ensures { λ r. ⌜ r ≡ aBeginOf header identity «message_octets» bits octets ⌝ }
+{
+    ArqFrame {
+        kind: FrameKind::Begin,
+        header: header,
+        identity: identity,
+        message_octets: message_octets,
+        begin_data: octets,
+        begin_bits: bits,
+        identity_type: 0,
+        frame_number: 0,
+        continue_data: [0u8; 10],
+    }
+}
+
+pub fn a_continue(
+    header: ArqHeader,
+    identity_type: u8,
+    frame_number: u8,
+    octets: [u8; 10],
+) -> ArqFrame
+    ensures { λ r. ⌜ r ≡ aContinueOf header «identity_type» «frame_number» octets ⌝ }
+{
+    ArqFrame {
+        kind: FrameKind::Continue,
+        header: header,
+        identity: MobileIdentity::Tmsi20(0),
+        message_octets: 0,
+        begin_data: [0u8; 7],
+        begin_bits: 0,
+        identity_type: identity_type,
+        frame_number: frame_number,
+        continue_data: octets,
+    }
+}
+
+fn blank_header() -> ArqHeader
+    ensures { λ r. ⌜ r ≡ blankHeader ⌝ }
+{
+    let flags = HeaderFlags {
+        pch_continuation: false,
+        bcch_change: false,
+        paging_frame_modifier: false,
+        reservation_response: false,
+    };
+    ArqHeader {
+        channel: Channel::Arch,
+        flags: flags,
+        partial_echo: 0,
+        polling: false,
+        response_mode: ResponseMode::Contention,
+    }
+}
+
+// A refusal beside the blank frame.
+pub fn refused(error: SpachError) -> FrameAnswer
+    ensures { λ r. ⌜ frameAnswer r ≡ answered blankFrame (refuses (numberOf error)) ⌝ }
+{
+    let header = blank_header();
+    let frame = a_begin(header, MobileIdentity::Tmsi20(0), 0, 0, [0u8; 7]);
+    FrameAnswer {
+        verdict: Verdict::Refused(error),
+        frame: frame,
+    }
+}
