@@ -99,7 +99,7 @@ module _ (bs : List Bool) (size : length bs ≡ 112) (padding : field 109 3 bs �
         let same : aContinue h (field 10 2 bs) (field 25 5 bs) (take 79 (drop 30 bs)) ≡ f = cc in
         let z : field 21 2 bs ≡ 0 = eqb-true (field 21 2 bs) 0 (not-false _ (x .0)) in
         record {
-          begin-unset = λ b. let z : _≡_ {A = ℕ} 0 1 = cc (ap (λ (x : ArqFrame). x .kind) same) in absurd (omega arith);
+          begin-unset = λ b. let z : _≡_ {A = ℕ} 0 1 = cc in absurd (omega arith);
           encoded =
               rw (← same)
               (continue-encoded h usage (field-lt 14 7 bs (omega arith)) (field 10 2 bs) (field 25 5 bs) (take 79 (drop 30 bs)) (length-field 30 79 bs (omega arith)) (ltb-false 25 (field 25 5 bs) (y .0))
