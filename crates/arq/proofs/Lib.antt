@@ -6,3 +6,4 @@ pub mod Laid
 pub mod Round
 pub mod Again
 pub mod Theorems
+pub mod Decoded

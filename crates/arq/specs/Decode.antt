@@ -17,6 +17,10 @@ use Rattle.arq.specs.declared.ArqHeader.{ArqHeader}
 use Rattle.arq.specs.declared.ArqFrame.{ArqFrame}
 use Rattle.arq.specs.Frame.{room, aBegin, aContinue}
 
+-- response mode: 0 Contention, 1 Reservation
+abbrev pub modeAt : Bool → ResponseMode
+modeAt set = cond set Reservation Contention
+
 -- what both kinds have at offset o, after their address: echo 7 bits, reserved 2, polling, response mode
 abbrev pub headerAt : HeaderA → Bool → ℕ → List Bool → ArqHeader
 headerAt a response o bs = record {
@@ -29,7 +33,7 @@ headerAt a response o bs = record {
   };
   «partial_echo» = field o 7 bs;
   polling = isSet (o + 9) bs;
-  «response_mode» = cond (isSet (o + 10) bs) Reservation Contention;
+  «response_mode» = modeAt (isSet (o + 10) bs);
 }
 
 -- reserved 6; else what follows
@@ -61,11 +65,14 @@ decodeKind h bs =
     (cond (eqb (field 7 3 bs) 6) (decodeContinue h bs)
     (refuses 4))
 
+-- Pch 3, after the fourth flag
+abbrev pub decodeUsage : HeaderA → List Bool → Outcome ArqFrame
+decodeUsage h bs = refuse (eqb (usageOf (h .channel)) 7) 3 (decodeKind h bs)
+
 unfoldable pub decodeOf : List ℕ → Outcome ArqFrame
 decodeOf xs =
     let bs = bitsOf xs in
     refuse (not (eqb (length xs) 14)) 1
     (refuse (not (eqb (field 109 3 bs) 0)) 15
     (andThen (headerAAt 0 bs) (λ h.
-    refuse (eqb (usageOf (h .channel)) 7) 3
-    (decodeKind h bs))))
+    decodeUsage h bs)))

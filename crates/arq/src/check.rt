@@ -6,12 +6,12 @@ use rach::MobileIdentity;
 use spach::SpachError;
 use spach::Verdict;
 ghost use mathlib.Core.Path.{_≡_};
-ghost use Prim.Native.Nat.{_≤_, _*_};
+ghost use Prim.Native.Nat.{_≤_};
 ghost use lib.ListN.{take, drop};
-ghost use Rattle.field.specs.Bits.{bitsOf};
+ghost use Rattle.field.specs.Bits.{bitsOf, Run};
 ghost use Rattle.field.specs.Layout.{anySet};
 ghost use Rattle.spach.specs.Refusal.{verdictOf, gives};
-ghost use Rattle.arq.specs.Frame.{room, beginData};
+ghost use Rattle.arq.specs.Frame.{room};
 ghost use Rattle.arq.specs.Encode.{headerChecked, beginChecked, continueChecked, byKind};
 
 // Pch 3; echo over 127 11.
@@ -36,17 +36,15 @@ pub fn room_of(identity: MobileIdentity) -> usize
     75 - p.width
 }
 
-// Whether a data bit is set past the message's last.
-fn filler_set(frame: ArqFrame) -> bool
-    requires { ⌜ frame .«begin_bits» ≤ 56 ⌝ }
-    ensures { λ r. ⌜ r ≡ anySet (drop (8 * frame .«message_octets») (beginData frame)) ⌝ }
+// Whether one of the n data bits at bit offset o is set past the message's last, which is the end-th.
+pub fn filler_set(octets: &[u8], o: usize, n: usize, end: usize) -> bool
+    requires { ⌜ Run (now octets) o n ⌝ }
+    ensures { λ r. ⌜ r ≡ anySet (drop end (take n (drop o (bitsOf (now (octets .entry)))))) ⌝ }
 {
-    let end = 8 * (frame.message_octets as usize);
-    let bits = frame.begin_bits as usize;
-    if bits <= end {
+    if n <= end {
         return false;
     }
-    field::any_set(&frame.begin_data, end, bits - end)
+    field::any_set(octets, o + end, n - end)
 }
 
 // Identity 2; bit count over the room 13; filler 7.
@@ -57,10 +55,16 @@ fn check_begin(frame: ArqFrame) -> Verdict
     if !identity.encodable() {
         return Verdict::Refused(SpachError::Identity);
     }
-    if room_of(identity) < frame.begin_bits as usize {
+    let bits = frame.begin_bits as usize;
+    if room_of(identity) < bits {
         return Verdict::Refused(SpachError::Payload);
     }
-    if filler_set(frame) {
+    if filler_set(
+        &frame.begin_data,
+        0,
+        bits,
+        8 * (frame.message_octets as usize),
+    ) {
         return Verdict::Refused(SpachError::Filler);
     }
     Verdict::Accepted

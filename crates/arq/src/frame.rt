@@ -10,10 +10,10 @@ use spach::HeaderFlags;
 use spach::SpachError;
 use spach::Verdict;
 ghost use mathlib.Core.Path.{_≡_};
-ghost use mathlib.Core.Bool.{Bool};
-ghost use mathlib.Core.List.{List};
-ghost use lib.ListN.{length};
-ghost use Rattle.field.specs.Bits.{bitsOf};
+ghost use Prim.Native.Nat.{_≤_};
+ghost use lib.ListN.{take, drop};
+ghost use Rattle.field.specs.Bits.{bitsOf, octets as octetsOf, Run};
+ghost use Rattle.field.specs.Layout.{upTo};
 ghost use Rattle.spach.specs.Refusal.{answered, refuses, numberOf};
 ghost use Rattle.arq.specs.Frame.{aBeginOf, aContinueOf, blankFrame, blankHeader, frameAnswer};
 
@@ -76,6 +76,26 @@ fn blank_header() -> ArqHeader
         polling: false,
         response_mode: ResponseMode::Contention,
     }
+}
+
+// The n bits at offset o of a frame or a message as a Begin's data, zero filled.
+pub fn begin_octets(octets: &[u8], o: usize, n: usize) -> [u8; 7]
+    requires { ⌜ Run (now octets) o n × (n ≤ 56) ⌝ }
+    ensures { λ r. ⌜ r ≡ octetsOf 7 (upTo 56 (take n (drop o (bitsOf (now (octets .entry)))))) ⌝ }
+{
+    let mut b = [0u8; 7];
+    field::copy_bits(&mut b, 0, octets, o, n);
+    b
+}
+
+// The same as a Continue's data.
+pub fn continue_octets(octets: &[u8], o: usize, n: usize) -> [u8; 10]
+    requires { ⌜ Run (now octets) o n × (n ≤ 80) ⌝ }
+    ensures { λ r. ⌜ r ≡ octetsOf 10 (upTo 80 (take n (drop o (bitsOf (now (octets .entry)))))) ⌝ }
+{
+    let mut b = [0u8; 10];
+    field::copy_bits(&mut b, 0, octets, o, n);
+    b
 }
 
 // A refusal beside the blank frame.

@@ -1,6 +1,7 @@
 // ArqFrame: encode, cut and decode.
 pub mod check;
 pub mod frame;
+pub mod read;
 pub mod write;
 
 use rach::MobileIdentity;

@@ -1,30 +1,25 @@
 -- `arq::check::filler_set` meets its contract. Assumes nothing.
-use mathlib.Core.Path.{sym, ap, _∙_}
-use Prim.Native.Nat.{_*_, _≤_}
+use mathlib.Core.Path.{_≡_, sym, ap, _∙_}
+use Prim.Native.Nat.{_-_, _≤_}
 use native.Mathlib.Omega.{arith}
 use borrow.Author.Needs.{needs}
-use lib.ListN.{length, length-take}
+use lib.ListN.{length, take, drop, length-take}
+use lib.Seq.{drop-drop}
 use Rattle.field.specs.Bits.{bitsOf}
 use Rattle.field.specs.Layout.{anySet}
 use Rattle.field.proofs.Set.{anySet-none, drop-take}
-use Rattle.arq.specs.Frame.{beginData}
 use Rattle.arq.proofs.check.filler_set.Statement.{statement}
 use Rattle.arq.proofs.check.filler_set.Tie as tie
 
-cast-end : tie.Need-cast-end
-cast-end c = search needs
-
-mul-end : tie.Need-mul-end
-mul-end c = search needs
-
-cast-bits : tie.Need-cast-bits
-cast-bits c = search needs
-
 returns : tie.Need-returns
 returns c =
-    let f = c .before .args .t1 in
-    let l : length (beginData f) ≤ 8 * f .«message_octets» = omega (arith, length-take (f .«begin_bits») (bitsOf (f .«begin_data»))) in
-    sym (anySet-none (8 * f .«message_octets») (beginData f) l)
+    let a = c .before .before .args in
+    let bs = drop (a .o) (bitsOf (a .octets .now)) in
+    let l : length (take (a .n) bs) ≤ a .end = omega (arith, length-take (a .n) bs) in
+    sym (anySet-none (a .end) (take (a .n) bs) l)
+
+add-any-set : tie.Need-add-any-set
+add-any-set c = search needs
 
 sub-any-set : tie.Need-sub-any-set
 sub-any-set c = search needs
@@ -34,9 +29,9 @@ any-set-requires c κs = search needs
 
 returns-2 : tie.Need-returns-2
 returns-2 c =
-    let f = c .before .before .before .before .before .args .t1 in
-    c .any-set .ensures ∙ ap anySet (sym (drop-take (8 * f .«message_octets») (f .«begin_bits») (bitsOf (f .«begin_data»))))
+    let a = c .before .before .before .args in
+    let bs = bitsOf (a .octets .now) in
+    c .any-set .ensures ∙ ap (λ l. anySet (take (a .n - a .end) l)) (sym (drop-drop (a .end) (a .o) bs)) ∙ ap anySet (sym (drop-take (a .end) (a .n) (drop (a .o) bs)))
 
 pub filler-set-spec : {M : Type 1} → statement M
-filler-set-spec =
-    tie.close (tie.spec cast-end mul-end cast-bits returns sub-any-set any-set-requires returns-2)
+filler-set-spec = tie.close (tie.spec returns add-any-set sub-any-set any-set-requires returns-2)
