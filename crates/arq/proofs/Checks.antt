@@ -32,22 +32,14 @@ refuse-checked true n x o = refl
 refuse-checked false n x o = refl
 
 module _ {A : Type 0} (o : Outcome A) where
-  pub header-checked : (h : ArqHeader) → headerChecked h o ≡ checked (headerChecked h (gives tt)) o
-  header-checked h =
-      ap (refuse (eqb (usageOf (h .channel)) 7) 3) (refuse-checked (ltb 127 (h .«partial_echo»)) 11 (gives tt) o)
-      ∙ refuse-checked (eqb (usageOf (h .channel)) 7) 3 (refuse (ltb 127 (h .«partial_echo»)) 11 (gives tt)) o
+  pub header-checked : (h : ArqHeader) (x : Outcome Unit) → headerChecked h (checked x o) ≡ checked (headerChecked h x) o
+  header-checked h x = simp (← refuse-checked)
 
   pub begin-checked : (f : ArqFrame) → beginChecked f o ≡ checked (beginChecked f (gives tt)) o
-  begin-checked f =
-      let x : Bool = not (encodable (f .identity)) in
-      let y : Bool = ltb (room (f .identity)) (f .«begin_bits») in
-      let z : Bool = anySet (drop (8 * f .«message_octets») (beginData f)) in
-      ap (λ (q : Outcome A). refuse x 2 (refuse y 13 q)) (refuse-checked z 7 (gives tt) o)
-      ∙ ap (refuse x 2) (refuse-checked y 13 (refuse z 7 (gives tt)) o)
-      ∙ refuse-checked x 2 (refuse y 13 (refuse z 7 (gives tt))) o
+  begin-checked f = simp (← refuse-checked)
 
   pub continue-checked : (f : ArqFrame) → continueChecked f o ≡ checked (continueChecked f (gives tt)) o
-  continue-checked f = refuse-checked (ltb 25 (f .«frame_number»)) 12 (gives tt) o
+  continue-checked f = simp (← refuse-checked)
 
 -- a Begin that passed has room for its data
 pub begin-fits : (f : ArqFrame) {u : Unit {0}} → beginChecked f (gives tt) ≡ gives u → f .«begin_bits» ≤ room (f .identity)
@@ -56,15 +48,19 @@ begin-fits f {u} e =
     let q = passed (ltb (room (f .identity)) (f .«begin_bits»)) 13 (refuse (anySet (drop (8 * f .«message_octets») (beginData f))) 7 (gives tt)) (p .1) in
     ltb-false (room (f .identity)) (f .«begin_bits») (q .0)
 
--- the header's verdict decides what comes of what follows it
-pub header-verdict : {A : Type 0} (h : ArqHeader) (o : Outcome A) (v : Verdict) → verdictOf v ≡ headerChecked h (gives tt) → checked (verdictOf v) o ≡ headerChecked h o
-header-verdict h o v e = ap (λ x. checked x o) e ∙ sym (header-checked o h)
+-- a verdict on checks decides what comes of what follows them
+module _ {A : Type 0} (o : Outcome A) {t : Outcome A} {s : Outcome Unit} {v : Verdict} (et : t ≡ checked s o) (es : verdictOf v ≡ s) where
+  pub verdict-refused : {x : SpachError} → v ≡ Refused x → refuses (numberOf x) ≡ t
+  verdict-refused ev = ap (λ w. checked (verdictOf w) o) (sym ev) ∙ ap (λ y. checked y o) es ∙ sym et
+
+  pub verdict-passed : v ≡ Accepted → o ≡ t
+  verdict-passed ev = ap (λ w. checked (verdictOf w) o) (sym ev) ∙ ap (λ y. checked y o) es ∙ sym et
 
 pub header-refused : {A : Type 0} (h : ArqHeader) (o : Outcome A) {v : Verdict} {x : SpachError} → verdictOf v ≡ headerChecked h (gives tt) → v ≡ Refused x → refuses (numberOf x) ≡ headerChecked h o
-header-refused h o {v} e ev = ap (λ w. checked (verdictOf w) o) (sym ev) ∙ header-verdict h o v e
+header-refused h o e ev = verdict-refused o (header-checked o h (gives tt)) e ev
 
 pub header-passed : {A : Type 0} (h : ArqHeader) {p o : Outcome A} {v : Verdict} → verdictOf v ≡ headerChecked h (gives tt) → v ≡ Accepted → p ≡ o → p ≡ headerChecked h o
-header-passed h {p} {o} {v} e ev eo = eo ∙ ap (λ w. checked (verdictOf w) o) (sym ev) ∙ header-verdict h o v e
+header-passed h {p} {o} e ev eo = eo ∙ verdict-passed o (header-checked o h (gives tt)) e ev
 
 -- all checks of encode
 abbrev pub encodeCheck : ArqFrame → Outcome Unit
@@ -83,8 +79,7 @@ module _ (f : ArqFrame) where
       let x = byKind (f .kind) (beginChecked f (gives tt)) (continueChecked f (gives tt)) in
       let o = byKind (f .kind) (gives (beginFrame f)) (gives (continueFrame f)) in
       ap (headerChecked (f .header)) (kinds (f .kind))
-      ∙ ap (refuse (eqb (usageOf (f .header .channel)) 7) 3) (refuse-checked (ltb 127 (f .header .«partial_echo»)) 11 x o)
-      ∙ refuse-checked (eqb (usageOf (f .header .channel)) 7) 3 (refuse (ltb 127 (f .header .«partial_echo»)) 11 x) o
+      ∙ header-checked o (f .header) x
 
   module _ {v : Verdict} (e : verdictOf v ≡ encodeCheck f) where
     pub encode-refused : {x : SpachError} → v ≡ Refused x → (refuses (numberOf x), blankPacked) ≡ answered blankPacked (encodeOf f)

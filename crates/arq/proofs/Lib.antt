@@ -1,9 +1,11 @@
 pub mod Samples
 pub mod Checks
 pub mod Written
+pub mod Decoded
+pub mod Fragments
+pub mod Apart
 pub mod Cuts
 pub mod Laid
 pub mod Round
 pub mod Again
 pub mod Theorems
-pub mod Decoded

@@ -2,10 +2,10 @@
 use mathlib.Core.Path.{_≡_, refl, sym, ap, ap₂, _∙_}
 use mathlib.Core.Bool.{Bool, true, false}
 use mathlib.Core.List.{List, [], _∷_, _++_, append-nil}
-use Prim.Native.Nat.{ℕ, _+_, _-_, _*_, _%_, _^_, _≤_, _<_}
+use Prim.Native.Nat.{ℕ, zero, suc, _+_, _-_, _*_, _%_, _^_, _≤_, _<_}
 use native.Mathlib.Nat.{mod-eq-of-lt}
 use native.Mathlib.Omega.{arith}
-use lib.ListN.{length, take, replicate, length-append, length-take}
+use lib.ListN.{length, take, replicate, length-append, length-take, replicate-append-replicate}
 use lib.Seq.{length-take-le}
 use Rattle.field.specs.Bits.{bit, bits, value, bitsOf, octets, put, splice}
 use Rattle.field.specs.Layout.{layout, upTo, zeros}
@@ -55,10 +55,13 @@ address-written i bs {g} {p} eg ep h =
     ∙ ap (put 15 (widthOf (typeOf i)) (valueOf i)) (eg ∙ put-layout 14 ((1, 0) ∷ []) bs zero-laid)
     ∙ put-more 14 15 (widthOf (typeOf i)) (valueOf i) ((1, 0) ∷ []) bs refl h
 
--- fourteen zero octets are 112 bits that are not set
-blank-bits : bitsOf (replicate 14 0) ≡ zeros 112
+-- zero octets are bits that are not set
+pub blank-bits : (n : ℕ) → bitsOf (replicate n 0) ≡ zeros (8 * n)
 unfolding bitsOf bits
-blank-bits = refl
+blank-bits zero = refl
+blank-bits (suc n) =
+    let e : 8 + 8 * n ≡ 8 * suc n = omega arith in
+    ap (λ l. zeros 8 ++ l) (blank-bits n) ∙ replicate-append-replicate 8 (8 * n) false ∙ ap zeros e
 
 -- the next part, after those that make the layout fs
 part : (fs gs : List (ℕ × ℕ)) (n : ℕ) {bs : List Bool} → n ≡ total fs → n ≤ 112 → bs ≡ splice 0 (layout fs) (zeros 112)
@@ -98,7 +101,7 @@ module _ (f : ArqFrame) where
       let b = headerB 5 (typeOf i) (h .flags) in
       let w = width-most (typeOf i) in
       let l = length-take (f .«begin_bits») (bitsOf (f .«begin_data»)) in
-      let e1 = ep ∙ ap (splice 0 (layout a)) blank-bits in
+      let e1 = ep ∙ ap (splice 0 (layout a)) (blank-bits 14) in
       let e2 = eq ∙ ap (λ (x : IdentityParts). splice 7 (layout (headerB 5 (x .«identity_type») (h .flags))) p) ek ∙ part a b 7 refl (omega arith) e1 in
       let e3 = es ∙ part (a ++ b) (address i) 14 refl (omega arith) e2 in
       let e4 = et ∙ ap (λ (x : IdentityParts). splice (15 + x .width) (layout (control h ++ (8, f .«message_octets») ∷ [])) s) ek ∙ part (a ++ b ++ address i) (control h ++ (8, f .«message_octets») ∷ []) (15 + widthOf (typeOf i)) (omega arith) (omega arith) e3 in
@@ -116,7 +119,7 @@ module _ (f : ArqFrame) where
       let h = f .header in
       let b = headerB 6 (f .«identity_type») (h .flags) in
       let l = length-take 79 (bitsOf (f .«continue_data»)) in
-      let e1 = ep ∙ ap (splice 0 (layout a)) blank-bits in
+      let e1 = ep ∙ ap (splice 0 (layout a)) (blank-bits 14) in
       let e2 = eq ∙ part a b 7 refl (omega arith) e1 in
       let e3 = es ∙ part (a ++ b) (control h ++ (5, f .«frame_number») ∷ []) 14 refl (omega arith) e2 in
       er ∙ ap (octets 14) (whole (continue h (f .«identity_type») (f .«frame_number»)) (continueData f) 30 refl (omega arith) e3)

@@ -8,9 +8,11 @@ use Rattle.field.specs.Bits.{bitsOf}
 use Rattle.field.specs.Layout.{upTo}
 use Rattle.rach.specs.Identity.{typeOf, encodable}
 use Rattle.rach.specs.declared.MobileIdentity.{MobileIdentity}
-use Rattle.spach.specs.Refusal.{Outcome, gives, refuse}
+use Rattle.spach.specs.Refusal.{Outcome, gives, refuses, refuse, numberOf}
 use Rattle.arq.specs.declared.ArqHeader.{ArqHeader}
 use Rattle.arq.specs.declared.ArqFrame.{ArqFrame}
+use Rattle.arq.specs.declared.CountAnswer.{CountAnswer}
+use Rattle.arq.specs.declared.CountAnswer.the-variants.{Frames, Refused}
 use Rattle.arq.specs.Frame.{room, aBegin, aContinue}
 use Rattle.arq.specs.Encode.{headerChecked}
 
@@ -37,3 +39,8 @@ cutFrame h i m (suc k) = aContinue h (typeOf i) k (upTo 79 (drop (room i + 79 * 
 -- frame k of a message, k from 0
 unfoldable pub frameOf : ArqHeader → MobileIdentity → List ℕ → ℕ → Outcome ArqFrame
 frameOf h i m k = cutChecked h i m (refuse (not (ltb k (1 + continues i (length m)))) 12 (gives (cutFrame h i m k)))
+
+-- a count's answer by number
+abbrev pub countAnswer : CountAnswer → Outcome ℕ
+countAnswer (Frames n) = gives n
+countAnswer (Refused e) = refuses (numberOf e)

@@ -1,5 +1,6 @@
 // ArqFrame: encode, cut and decode.
 pub mod check;
+pub mod cut;
 pub mod frame;
 pub mod read;
 pub mod write;
@@ -7,6 +8,7 @@ pub mod write;
 use rach::MobileIdentity;
 use spach::Channel;
 use spach::HeaderFlags;
+use spach::SpachError;
 use spach::Verdict;
 ghost use mathlib.Core.Path.{_≡_};
 ghost use Rattle.spach.specs.Refusal.{answered};
@@ -58,6 +60,12 @@ pub struct FrameAnswer {
 pub struct Encoded {
     pub verdict: Verdict,
     pub frame: PackedFrame,
+}
+
+// How many frames a message needs, or a refusal.
+pub enum CountAnswer {
+    Frames(usize),
+    Refused(SpachError),
 }
 
 impl ArqFrame {
