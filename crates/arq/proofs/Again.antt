@@ -9,9 +9,9 @@ use lib.Dec.{eqb, ltb}
 use lib.ListN.{length, take, drop, length-append, length-drop}
 use lib.Seq.{take-all}
 use borrow.Author.Tests.{eqb-true, not-false, ltb-false}
-use Rattle.field.specs.Bits.{bit, bits, value, bitsOf, octets, field, put}
+use Rattle.field.specs.Bits.{Octets, bit, bits, value, bitsOf, octets, field, put}
 use Rattle.field.specs.Layout.{layout, zeros, upTo, anySet}
-use Rattle.field.proofs.Laws.{Octets, field-lt, length-field, length-put, put-field, run-and-rest, value-inj, length-bitsOf, octets-bitsOf}
+use Rattle.field.proofs.Laws.{field-lt, length-field, length-put, put-field, run-and-rest, value-inj, length-bitsOf, octets-bitsOf}
 use Rattle.field.proofs.Layouts.{layout-append, reads, sum, layout-reads}
 use Rattle.field.proofs.Cuts.{upTo-fill}
 use Rattle.rach.specs.Identity.{typeOf, valueOf, widthOf, identityOf, encodable}

@@ -5,9 +5,9 @@ use mathlib.Core.List.{List, _++_}
 use Prim.Native.Nat.{ℕ, suc, _+_, _*_, _≤_, _<_, min}
 use native.Mathlib.Omega.{arith}
 use lib.ListN.{length, take, drop, length-take}
-use Rattle.field.specs.Bits.{bitsOf, octets}
+use Rattle.field.specs.Bits.{Octets, bitsOf, octets}
 use Rattle.field.specs.Layout.{upTo}
-use Rattle.field.proofs.Laws.{Octets, length-bitsOf, octets-bitsOf}
+use Rattle.field.proofs.Laws.{length-bitsOf, octets-bitsOf}
 use Rattle.field.proofs.Cuts.{length-upTo, take-upTo, upTo-of-take, bits-kept, joined-same, rejoin}
 use Rattle.rach.specs.Identity.{typeOf}
 use Rattle.rach.specs.declared.MobileIdentity.{MobileIdentity}

@@ -3,9 +3,8 @@ use mathlib.Core.Path.{_≡_}
 use mathlib.Core.List.{List}
 use Prim.Native.Nat.{ℕ, _+_, _*_, _^_, _≤_, _<_}
 use lib.ListN.{length, take}
-use Rattle.field.specs.Bits.{bitsOf, octets, field, put}
+use Rattle.field.specs.Bits.{Octets, bitsOf, octets, field, put}
 use Rattle.field.specs.Layout.{upTo}
-use Rattle.field.proofs.Laws.{Octets}
 use Rattle.rach.specs.declared.MobileIdentity.{MobileIdentity}
 use Rattle.spach.specs.Refusal.{gives}
 use Rattle.arq.specs.declared.FrameKind.the-variants.{Begin}

@@ -3,9 +3,9 @@
 use mathlib.Core.Path.{_≡_}
 use mathlib.Core.Bool.{Bool, true, false}
 use mathlib.Core.List.{List, [], _∷_, _++_}
-use Prim.Native.Nat.{ℕ, zero, suc, _+_, _*_, _/_, _%_, _^_, _≤_}
+use Prim.Native.Nat.{ℕ, zero, suc, _+_, _*_, _/_, _%_, _^_, _≤_, _<_}
 use lib.Dec.{eqb}
-use lib.ListN.{length, take, drop}
+use lib.ListN.{length, take, drop, getD}
 
 -- a number's lowest bit is set
 abbrev pub odd : ℕ → Bool
@@ -25,6 +25,10 @@ bits (suc w) v = odd (v / 2 ^ w) ∷ bits w v
 unfoldable pub value : List Bool → ℕ
 value [] = 0
 value (b ∷ bs) = bit b * 2 ^ length bs + value bs
+
+-- numbers of eight bits
+abbrev pub Octets : List ℕ → Type 0
+Octets xs = (i : ℕ) → getD xs i 0 < 2 ^ 8
 
 -- the bits of octets
 unfoldable pub bitsOf : List ℕ → List Bool

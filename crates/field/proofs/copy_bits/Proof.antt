@@ -4,8 +4,8 @@ use Prim.Native.Nat.{_≤_, _<_, _-_, _+_}
 use native.Mathlib.Omega.{arith}
 use borrow.Author.Needs.{needs}
 use lib.ListN.{length, take, drop}
-use Rattle.field.specs.Bits.{bitsOf, put, field, splice}
-use Rattle.field.proofs.Laws.{length-bitsOf, Octets, from-bits}
+use Rattle.field.specs.Bits.{Octets, bitsOf, put, field, splice}
+use Rattle.field.proofs.Laws.{length-bitsOf, from-bits}
 use Rattle.field.proofs.Put.{splice-nil, copy-step}
 use Rattle.field.proofs.copy_bits.Statement.{statement}
 use Rattle.field.proofs.copy_bits.Tie as tie

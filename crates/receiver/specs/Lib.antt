@@ -1,0 +1,3 @@
+pub mod Map
+pub mod Receiver
+pub mod Demand3
