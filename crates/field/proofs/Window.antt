@@ -11,7 +11,7 @@ use lib.ListN.{length, take, drop, getD, length-append, length-take, length-drop
 use lib.Seq.{drop-drop, take-add, take-suc, getD-drop}
 use native.Mathlib.Numerals.{add-one}
 use Rattle.field.specs.Bits.{bits, value, bitsOf, field, window, Placed}
-use Rattle.field.proofs.Laws.{bitsOf-take, bitsOf-drop, field-value, field-left, length-bits, value-lt, value-append, value-bits-lt, bitsOf-append, length-bitsOf}
+use Rattle.field.proofs.Laws.{bitsOf-take, bitsOf-drop, length-field, field-value, field-left, length-bits, value-lt, value-append, value-bits-lt, bitsOf-append, length-bitsOf}
 
 -- `(acc << 8) | x`, in 64 bits
 pub shift-in : (acc x : ℕ) → acc < 2 ^ 56 → x < 2 ^ 8 → bitOr ((acc * 2 ^ 8) % 2 ^ 64) x ≡ acc * 2 ^ 8 + x
@@ -112,3 +112,13 @@ read-law s o w f n h ex =
     ∙ ap (field (o - 8 * f) w) (window-bits s f n)
     ∙ field-part (8 * f) (8 * n) (o - 8 * f) w (bitsOf s) b (omega arith)
     ∙ ap (λ (m : ℕ). field m w (bitsOf s)) e
+
+-- a field of a field, by division: what follows it in the wider one is shifted out, what precedes it is masked out
+pub subfield : (o w p u : ℕ) (bs : List Bool) {x : ℕ} → o + w ≤ length bs → p + u ≤ w → x ≡ field o w bs → x / 2 ^ (w - (p + u)) % 2 ^ u ≡ field (o + p) u bs
+unfolding field
+subfield o w p u bs h k e =
+    let l : length (take w (drop o bs)) ≡ w = length-field o w bs h in
+    ap (λ (x : ℕ). x / 2 ^ (w - (p + u)) % 2 ^ u) e
+    ∙ ap (λ (n : ℕ). value (take w (drop o bs)) / 2 ^ (n - (p + u)) % 2 ^ u) (sym l)
+    ∙ field-value p u (take w (drop o bs)) (rw l k)
+    ∙ field-part o w p u bs h k

@@ -2,11 +2,14 @@
 use mathlib.Core.Path.{_≡_, refl, sym, ap, _∙_}
 use mathlib.Core.Bool.{Bool, true, false, cond, not}
 use mathlib.Core.List.{List}
-use Prim.Native.Nat.{ℕ, _+_, _<_, _^_}
+use Prim.Native.Nat.{ℕ, _+_, _-_, _/_, _%_, _^_, _≤_}
+use native.Mathlib.Nat.{zero-add, add-zero, div-one}
 use native.Mathlib.Omega.{arith}
 use lib.Dec.{eqb}
 use borrow.Author.Tests.{eq-eqb, ne-eqb}
+use lib.ListN.{length}
 use Rattle.field.specs.Bits.{field}
+use Rattle.field.proofs.Window.{subfield}
 use Rattle.rach.specs.Identity.{widthOf, identityOf}
 use Rattle.rach.specs.declared.MobileIdentity.{MobileIdentity}
 use Rattle.spach.specs.declared.Channel.{Channel}
@@ -14,9 +17,23 @@ use Rattle.spach.specs.declared.Channel.the-variants.{Arch, Smsch, Pch}
 use Rattle.spach.specs.Refusal.{Outcome, gives, refuses}
 use Rattle.spach.specs.Header.{channelOf, headerAAt, identityAt, addressAt}
 
--- a field that was taken where the cursor stood
-pub taken : {x a b : ℕ} (w : ℕ) (bs : List Bool) → x ≡ field a w bs → a ≡ b → x ≡ field b w bs
-taken w bs e h = e ∙ ap (λ o. field o w bs) h
+-- the fields of a run of w bits at offset o that was taken as one number x
+pub record Parts (o w x : ℕ) (bs : List Bool) : Type 0 where
+  pub at : (p u : ℕ) → p + u ≤ w → x / 2 ^ (w - (p + u)) % 2 ^ u ≡ field (o + p) u bs
+  pub first : (u : ℕ) → u ≤ w → x / 2 ^ (w - u) % 2 ^ u ≡ field o u bs
+  pub last : (p : ℕ) → p + 1 ≡ w → x % 2 ≡ field (o + p) 1 bs
+
+pub part-of : (o w : ℕ) (bs : List Bool) {x : ℕ} → o + w ≤ length bs → x ≡ field o w bs → Parts o w x bs
+part-of o w bs {x} h e =
+    let at : (p u : ℕ) → p + u ≤ w → x / 2 ^ (w - (p + u)) % 2 ^ u ≡ field (o + p) u bs = λ p u k. subfield o w p u bs h k e in
+    record {
+      at = at;
+      first = λ u k. ap (λ n. x / 2 ^ (w - n) % 2 ^ u) (sym (zero-add u)) ∙ at 0 u (omega arith) ∙ ap (λ n. field n u bs) (add-zero o);
+      last = λ p k.
+          let z : w - (p + 1) ≡ 0 = omega arith in
+          let d : x / 2 ^ (w - (p + 1)) ≡ x = rw z (div-one x) in
+          ap (λ n. n % 2) (sym d) ∙ at p 1 (omega arith);
+    }
 
 -- a usage that is no channel's is refused 3
 pub channel-refused : (u n : ℕ) → channelOf u ≡ refuses n → 3 ≡ n

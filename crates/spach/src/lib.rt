@@ -168,29 +168,26 @@ pub enum HeaderAAnswer {
     Refused(SpachError),
 }
 
-// Header A at the cursor. Its flags lack the reservation response, which header B has.
+// Header A at the cursor, taken as one number. Its flags lack the reservation response, which header B has.
 pub fn read_header_a(octets: &[u8], reader: Reader) -> HeaderAAnswer
     requires { ⌜ Run (now octets) (reader .offset) 7 ⌝ }
     ensures { λ r. ⌜ headerAAnswer r ≡ headerAAt (reader .offset) (bitsOf (now (octets .entry))) ⌝ }
 {
-    let usage = reader.take(octets, 3);
-    let ChannelAnswer::Channel(channel) = channel_of(usage.value) else {
+    let taken = reader.take(octets, 7);
+    let bits = taken.value;
+    let ChannelAnswer::Channel(channel) = channel_of(bits / 16 % 8) else {
         return HeaderAAnswer::Refused(SpachError::UnsupportedUsage);
     };
-    let pch = usage.reader.take(octets, 1);
-    let bcch = pch.reader.take(octets, 1);
-    let modifier = bcch.reader.take(octets, 1);
-    let fourth = modifier.reader.take(octets, 1);
-    if fourth.value != 0 {
+    if bits % 2 != 0 {
         return HeaderAAnswer::Refused(SpachError::Reserved);
     }
     let flags = HeaderFlags {
-        pch_continuation: pch.value != 0,
-        bcch_change: bcch.value != 0,
-        paging_frame_modifier: modifier.value != 0,
+        pch_continuation: bits / 8 % 2 != 0,
+        bcch_change: bits / 4 % 2 != 0,
+        paging_frame_modifier: bits / 2 % 2 != 0,
         reservation_response: false,
     };
-    let next = fourth.reader;
+    let next = taken.reader;
     HeaderAAnswer::Header(HeaderA {
         channel: channel,
         flags: flags,
@@ -234,25 +231,20 @@ fn read_identity(
     })
 }
 
-// Identity type, a bit, reservation response, encrypted bit and identity at the cursor, of any type.
+// Identity type, a bit, reservation response and encrypted bit at the cursor, taken as one number; then the identity.
 pub fn read_address(octets: &[u8], reader: Reader) -> AddressAnswer
     requires { ⌜ Run (now octets) (reader .offset) 55 ⌝ }
     ensures { λ r. ⌜ addressAnswer r ≡ addressAt (reader .offset) (bitsOf (now (octets .entry))) ⌝ }
 {
-    let identity_type = reader.take(octets, 2);
-    let bit = identity_type.reader.take(octets, 1);
-    if bit.value != 0 {
+    let taken = reader.take(octets, 5);
+    let bits = taken.value;
+    if bits / 4 % 2 != 0 {
         return AddressAnswer::Refused(SpachError::UnsupportedFrame);
     }
-    let reservation = bit.reader.take(octets, 1);
-    let encrypted = reservation.reader.take(octets, 1);
-    if encrypted.value != 0 {
+    if bits % 2 != 0 {
         return AddressAnswer::Refused(SpachError::Encrypted);
     }
-    read_identity(
-        octets,
-        encrypted.reader,
-        identity_type.value as u8,
-        reservation.value != 0,
-    )
+    let identity_type = (bits / 8 % 4) as u8;
+    let next = taken.reader;
+    read_identity(octets, next, identity_type, bits / 2 % 2 != 0)
 }

@@ -1,10 +1,11 @@
 -- `spach::read_header_a` meets its contract. Assumes nothing.
-use mathlib.Core.Path.{_≡_, sym, ap, _∙_}
+use mathlib.Core.Path.{refl, sym, ap, _∙_}
 use native.Mathlib.Omega.{arith}
 use borrow.Author.Needs.{needs}
 use Rattle.field.specs.Bits.{bitsOf}
+use Rattle.field.proofs.Laws.{length-bitsOf}
 use Rattle.spach.specs.Header.{channelAnswer, channelOf}
-use Rattle.spach.proofs.Laws.{taken, header-a-usage, header-a-reserved, header-a-read}
+use Rattle.spach.proofs.Laws.{part-of, header-a-usage, header-a-reserved, header-a-read}
 use Rattle.spach.proofs.read_header_a.Statement.{statement}
 use Rattle.spach.proofs.read_header_a.Tie as tie
 
@@ -25,46 +26,25 @@ returns c =
     let start = c .before .before .before .before .before in
     let o = start .args .reader .offset in
     let bs = bitsOf (start .args .octets .now) in
-    let u = c .before .before .before .take in
-    header-a-usage o bs (ap channelOf (sym (u .ensures .0)) ∙ sym (c .before .before .channel-of .ensures) ∙ ap channelAnswer (c .enum-told .given .1))
-
-take-requires-2 : tie.Need-take-requires-2
-take-requires-2 c κs = search needs
-
-take-requires-3 : tie.Need-take-requires-3
-take-requires-3 c κs = search needs
-
-take-requires-4 : tie.Need-take-requires-4
-take-requires-4 c κs = search needs
-
-take-requires-5 : tie.Need-take-requires-5
-take-requires-5 c κs = search needs
+    let part = part-of o 7 bs (omega (arith, length-bitsOf (start .args .octets .now))) (c .before .before .before .take .ensures .0) in
+    header-a-usage o bs (ap channelOf (sym (part .first 3 (omega arith))) ∙ sym (c .before .before .channel-of .ensures) ∙ ap channelAnswer (c .enum-told .given .1))
 
 returns-2 : tie.Need-returns-2
 returns-2 c =
-    let start = c .before .before .before .before .before .before .before .before .before .before .before .before in
+    let start = c .before .before .before .before .before .before .before in
     let o = start .args .reader .offset in
     let bs = bitsOf (start .args .octets .now) in
-    let e = (ap channelOf (sym (c .before .before .before .before .before .before .before .before .before .before .take .ensures .0)) ∙ sym (c .before .before .before .before .before .before .before .before .before .channel-of .ensures) ∙ ap channelAnswer (c .before .before .before .before .before .before .before .channel .given .1)) in
-    let e0 = c .before .before .before .before .before .before .before .before .before .before .take .ensures .2 in
-    let e1 = c .before .before .before .before .before .take2 .ensures .2 in
-    let e2 = c .before .before .before .before .take3 .ensures .2 in
-    let e3 = c .before .before .before .take4 .ensures .2 in
-    header-a-reserved o bs e (taken 1 bs (c .before .before .take5 .ensures .0) (omega arith)) (c .if1 .taken)
+    let part = part-of o 7 bs (omega (arith, length-bitsOf (start .args .octets .now))) (c .before .before .before .before .before .take .ensures .0) in
+    header-a-reserved o bs (ap channelOf (sym (part .first 3 (omega arith))) ∙ sym (c .before .before .before .before .channel-of .ensures) ∙ ap channelAnswer (c .before .before .channel .given .1)) (part .last 6 refl) (c .if1 .taken)
 
 returns-3 : tie.Need-returns-3
 returns-3 c =
-    let start = c .before .before .before .before .before .before .before .before .before .before .before .before .before .before .before .before in
+    let start = c .before .before .before .before .before .before .before .before in
     let o = start .args .reader .offset in
     let bs = bitsOf (start .args .octets .now) in
-    let e = (ap channelOf (sym (c .before .before .before .before .before .before .before .before .before .before .before .before .before .before .take .ensures .0)) ∙ sym (c .before .before .before .before .before .before .before .before .before .before .before .before .before .channel-of .ensures) ∙ ap channelAnswer (c .before .before .before .before .before .before .before .before .before .before .before .channel .given .1)) in
-    let e0 = c .before .before .before .before .before .before .before .before .before .before .before .before .before .before .take .ensures .2 in
-    let e1 = c .before .before .before .before .before .before .before .before .before .take2 .ensures .2 in
-    let e2 = c .before .before .before .before .before .before .before .before .take3 .ensures .2 in
-    let e3 = c .before .before .before .before .before .before .before .take4 .ensures .2 in
-    let e4 = c .before .before .before .before .before .before .take5 .ensures .2 in
-    header-a-read o bs e (taken 1 bs (c .before .before .before .before .before .before .before .before .before .take2 .ensures .0) (omega arith)) (taken 1 bs (c .before .before .before .before .before .before .before .before .take3 .ensures .0) (omega arith))
-    (taken 1 bs (c .before .before .before .before .before .before .before .take4 .ensures .0) (omega arith)) (taken 1 bs (c .before .before .before .before .before .before .take5 .ensures .0) (omega arith)) (c .before .before .before .before .if1 .left) (omega arith)
+    let part = part-of o 7 bs (omega (arith, length-bitsOf (start .args .octets .now))) (c .before .before .before .before .before .before .take .ensures .0) in
+    header-a-read o bs (ap channelOf (sym (part .first 3 (omega arith))) ∙ sym (c .before .before .before .before .before .channel-of .ensures) ∙ ap channelAnswer (c .before .before .before .channel .given .1))
+    (part .at 3 1 (omega arith)) (part .at 4 1 (omega arith)) (part .at 5 1 (omega arith)) (part .last 6 refl) (c .before .if1 .left) (c .before .before .before .before .before .before .take .ensures .2)
 
 pub read-header-a-spec : {M : Type 1} → statement M
 read-header-a-spec =
@@ -75,9 +55,5 @@ read-header-a-spec =
     enum-known-channel
     enum-told
     returns
-    take-requires-2
-    take-requires-3
-    take-requires-4
-    take-requires-5
     returns-2
     returns-3)
