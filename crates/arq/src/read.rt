@@ -31,14 +31,13 @@ fn mode_of(bit: u64) -> ResponseMode
     ResponseMode::Contention
 }
 
-// What both kinds have at bit offset o, after their address.
+// What both kinds have at bit offset o, after their address, taken as one number.
 fn read_header(octets: &[u8], a: HeaderA, response: bool, o: usize) -> ArqHeader
     requires { ⌜ Run (now octets) o 11 ⌝ }
     ensures { λ r. ⌜ r ≡ headerAt a response o (bitsOf (now (octets .entry))) ⌝ }
 {
-    let echo = field::read_field(octets, o, 7);
-    let polling = field::read_field(octets, o + 9, 1);
-    let mode = mode_of(field::read_field(octets, o + 10, 1));
+    let bits = field::read_field(octets, o, 11);
+    let mode = mode_of(bits % 2);
     let channel = a.channel;
     let read = a.flags;
     let flags = HeaderFlags {
@@ -50,8 +49,8 @@ fn read_header(octets: &[u8], a: HeaderA, response: bool, o: usize) -> ArqHeader
     ArqHeader {
         channel: channel,
         flags: flags,
-        partial_echo: echo as u8,
-        polling: polling != 0,
+        partial_echo: (bits / 16 % 128) as u8,
+        polling: bits / 2 % 2 != 0,
         response_mode: mode,
     }
 }
