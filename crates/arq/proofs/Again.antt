@@ -27,7 +27,7 @@ use Rattle.arq.specs.declared.ResponseMode.the-variants.{Contention, Res
 use Rattle.arq.specs.declared.FrameKind.the-variants.{Begin}
 use Rattle.arq.specs.declared.ArqHeader.{ArqHeader}
 use Rattle.arq.specs.declared.ArqFrame.{ArqFrame}
-use Rattle.arq.specs.Frame.{modeOf, control, room, packed, aBegin, aContinue}
+use Rattle.arq.specs.Frame.{modeOf, restOf, room, packed, aBegin, aContinue}
 use Rattle.arq.specs.Encode.{encodeOf}
 use Rattle.arq.specs.Decode.{headerAt, decodeBegin, decodeContinue, decodeKind, decodeOf}
 use Rattle.arq.proofs.Round.{begin-encoded, continue-encoded}
@@ -39,9 +39,9 @@ mode-read (suc zero) h = refl
 mode-read (suc (suc n)) h = absurd (omega arith)
 
 -- what follows the address, and a field of u bits after it, is the table of its fields
-pub control-given : (a : HeaderA) (r : Bool) (o u : ℕ) (bs : List Bool) → o + 11 ≤ length bs → field (o + 7) 2 bs ≡ 0
-    → control (headerAt a r o bs) ++ (u, field (o + 11) u bs) ∷ [] ≡ reads (7 ∷ 2 ∷ 1 ∷ 1 ∷ u ∷ []) o bs
-control-given a r o u bs n e =
+pub restOf-given : (a : HeaderA) (r : Bool) (o u : ℕ) (bs : List Bool) → o + 11 ≤ length bs → field (o + 7) 2 bs ≡ 0
+    → restOf (headerAt a r o bs) ++ (u, field (o + 11) u bs) ∷ [] ≡ reads (7 ∷ 2 ∷ 1 ∷ 1 ∷ u ∷ []) o bs
+restOf-given a r o u bs n e =
     simp add-assoc
     (rw (e, flag-read (field (o + 9) 1 bs) (field-lt (o + 9) 1 bs (omega arith)), mode-read (field (o + 10) 1 bs) (field-lt (o + 10) 1 bs (omega arith))))
 
@@ -104,19 +104,19 @@ module _ (bs : List Bool) (size : length bs ≡ 112) (padding : field 109 3 bs �
               rw (← same)
               (continue-encoded h usage (field-lt 14 7 bs (omega arith)) (field 10 2 bs) (field 25 5 bs) (take 79 (drop 30 bs)) (length-field 30 79 bs (omega arith)) (ltb-false 25 (field 25 5 bs) (y .0))
               ∙ ap gives
-              (relaid (headerA (a .channel) (a .flags) ++ (3, 6) ∷ (2, field 10 2 bs) ∷ []) ((1, bit (isSet 13 bs)) ∷ (control h ++ (5, field 25 5 bs) ∷ []))
+              (relaid (headerA (a .channel) (a .flags) ++ (3, 6) ∷ (2, field 10 2 bs) ∷ []) ((1, bit (isSet 13 bs)) ∷ (restOf h ++ (5, field 25 5 bs) ∷ []))
               (1 ∷ 7 ∷ 2 ∷ 1 ∷ 1 ∷ 5 ∷ []) 30 79 (front-given k refl)
-              (ap₂ (λ (n : ℕ) (l : List (ℕ × ℕ)). (1, n) ∷ l) response-given (control-given a (isSet 13 bs) 14 5 bs (omega arith) z))
+              (ap₂ (λ (n : ℕ) (l : List (ℕ × ℕ)). (1, n) ∷ l) response-given (restOf-given a (isSet 13 bs) 14 5 bs (omega arith) z))
               refl refl));
         }
 
     -- a Begin's table from the reservation response on
     rest-given : (i : MobileIdentity) (w : ℕ) → widthOf (typeOf i) ≡ w → valueOf i ≡ field 15 w bs → field 14 1 bs ≡ 0 → w ≤ 50 → field (15 + w + 7) 2 bs ≡ 0
-        → (1, bit (isSet 13 bs)) ∷ (1, 0) ∷ (widthOf (typeOf i), valueOf i) ∷ (control (headerAt a (isSet 13 bs) (15 + w) bs) ++ (8, field (15 + w + 11) 8 bs) ∷ [])
+        → (1, bit (isSet 13 bs)) ∷ (1, 0) ∷ (widthOf (typeOf i), valueOf i) ∷ (restOf (headerAt a (isSet 13 bs) (15 + w) bs) ++ (8, field (15 + w + 11) 8 bs) ∷ [])
         ≡ reads (1 ∷ 1 ∷ w ∷ 7 ∷ 2 ∷ 1 ∷ 1 ∷ 8 ∷ []) 13 bs
     rest-given i w ew ev ey l z =
-        let c : control (headerAt a (isSet 13 bs) (15 + w) bs) ++ (8, field (15 + w + 11) 8 bs) ∷ [] ≡ reads (7 ∷ 2 ∷ 1 ∷ 1 ∷ 8 ∷ []) (15 + w) bs =
-        control-given a (isSet 13 bs) (15 + w) 8 bs (omega arith) z in
+        let c : restOf (headerAt a (isSet 13 bs) (15 + w) bs) ++ (8, field (15 + w + 11) 8 bs) ∷ [] ≡ reads (7 ∷ 2 ∷ 1 ∷ 1 ∷ 8 ∷ []) (15 + w) bs =
+        restOf-given a (isSet 13 bs) (15 + w) 8 bs (omega arith) z in
         rw (response-given, ew, ev, ey) (ap (λ (l : List (ℕ × ℕ)). (1, field 13 1 bs) ∷ (1, 0) ∷ (w, field 15 w bs) ∷ l) c)
 
     -- and so is a Begin
@@ -147,7 +147,7 @@ module _ (bs : List Bool) (size : length bs ≡ 112) (padding : field 109 3 bs �
               rw (← same)
               (begin-encoded h usage (field-lt o 7 bs (omega arith)) i n (room i) data-bits en (length-field (o + 19) (room i) bs (omega arith)) (omega arith) (y .0)
               ∙ ap gives
-              (relaid (headerA (a .channel) (a .flags) ++ (3, 5) ∷ (2, typeOf i) ∷ []) ((1, bit (isSet 13 bs)) ∷ (1, 0) ∷ (widthOf (typeOf i), valueOf i) ∷ (control h ++ (8, n) ∷ []))
+              (relaid (headerA (a .channel) (a .flags) ++ (3, 5) ∷ (2, typeOf i) ∷ []) ((1, bit (isSet 13 bs)) ∷ (1, 0) ∷ (widthOf (typeOf i), valueOf i) ∷ (restOf h ++ (8, n) ∷ []))
               (1 ∷ 1 ∷ w ∷ 7 ∷ 2 ∷ 1 ∷ 1 ∷ 8 ∷ []) (o + 19) (room i) (front-given k (sym ty))
               (rest-given i w tw (value-identity t v) (p .1) m z)
               (omega arith) (omega arith)));

@@ -24,7 +24,7 @@ use Rattle.spach.proofs.Laid.{flag-laid, withoutResponse, header-a-laid, addres
 use Rattle.arq.specs.declared.ResponseMode.{ResponseMode}
 use Rattle.arq.specs.declared.ResponseMode.the-variants.{Contention, Reservation}
 use Rattle.arq.specs.declared.ArqHeader.{ArqHeader}
-use Rattle.arq.specs.Frame.{modeOf, control, begin, continue, room, packed, aBegin, aContinue}
+use Rattle.arq.specs.Frame.{modeOf, restOf, begin, continue, room, packed, aBegin, aContinue}
 use Rattle.arq.specs.Decode.{headerAt, decodeKind, decodeOf}
 
 -- a response mode that was laid
@@ -118,7 +118,7 @@ module _ (h : ArqHeader) (usage : eqb (usageOf (h .channel)) 7 ≡ false) (echo 
       let fs : List (ℕ × ℕ) = continue h t k in
       let bs : List Bool = layout fs ++ (upTo 79 d ++ zeros 3) in
       let at : (j : ℕ) → j < 14 → _ = λ j m. field-layout fs (upTo 79 d ++ zeros 3) j m in
-      opens h (headerB 6 t (h .flags) ++ control h ++ (5, k) ∷ []) 79 d refl fits usage
+      opens h (headerB 6 t (h .flags) ++ restOf h ++ (5, k) ∷ []) 79 d refl fits usage
       ∙ kind-continue (headerAOf h) bs (at 5 (omega arith)) (at 10 (omega arith)) (at 13 (omega arith) ∙ mod-eq-of-lt (omega arith)) l
       (header-laid h 14 bs (flag-laid (h .flags .«reservation_response») (at 8 (omega arith))) (at 9 (omega arith) ∙ mod-eq-of-lt echo) (at 11 (omega arith)) (at 12 (omega arith)))
       (at 6 (omega arith))
@@ -137,7 +137,7 @@ module _ (h : ArqHeader) (usage : eqb (usageOf (h .channel)) 7 ≡ false) (echo 
       let rest : (j o : ℕ) → j < 16 → place fs j ≡ o → field o (width fs j) bs ≡ number fs j % 2 ^ width fs j =
       λ j o m e. ap (λ (x : ℕ). field x (width fs j) bs) (sym e) ∙ at j m in
       let whole : total fs + room i ≡ 109 = omega (arith, width-most (typeOf i)) in
-      opens h (headerB 5 (typeOf i) (h .flags) ++ address i ++ control h ++ (8, n) ∷ []) (room i) d whole fits usage
+      opens h (headerB 5 (typeOf i) (h .flags) ++ address i ++ restOf h ++ (8, n) ∷ []) (room i) d whole fits usage
       ∙ kind-begin (headerAOf h) bs i (h .flags .«reservation_response») (15 + w) (at 5 (omega arith))
       (address-reads 10 bs i (h .flags .«reservation_response») en (at 6 (omega arith)) (at 7 (omega arith)) (at 8 (omega arith)) (at 9 (omega arith)) (at 10 (omega arith)))
       (rest 12 (15 + w + 7) (omega arith) (omega arith))

@@ -1,44 +1,57 @@
 -- 01, "Sample orders": the starred lines, and frames of the Rust that pin the layout bit by bit, settled by one test.
--- The frames are the Rust's answers to the same messages (`oracle`, CUT and ENCODE). Assumes nothing.
+-- The frames are the Rust's answers to the same messages (`oracle`, FRAME and ENCODE): every channel, flag and mode, and the
+-- top and low bits of each identity, are told apart in them. Assumes nothing.
 use mathlib.Core.Bool.{Bool, true, false, _&&_}
 use mathlib.Core.List.{List, [], _∷_, _++_}
-use Prim.Native.Nat.{ℕ}
+use Prim.Native.Nat.{ℕ, _+_, _-_, _^_}
 use lib.Dec.{T, eqb}
 use lib.ListN.{length, replicate}
-use Rattle.field.specs.Bits.{bits, value, bitsOf, octets, field}
+use Rattle.field.specs.Bits.{bit, bits, value, bitsOf, octets, field}
 use Rattle.field.specs.Layout.{layout, upTo, anySet}
-use Rattle.rach.specs.Identity.{identityOf, inRange, encodable}
-use Rattle.spach.specs.declared.Channel.the-variants.{Arch}
+use Rattle.rach.specs.Identity.{typeOf, valueOf, identityOf, inRange, encodable}
+use Rattle.rach.specs.declared.MobileIdentity.{MobileIdentity}
+use Rattle.rach.specs.declared.MobileIdentity.the-variants.{Tmsi20, Tmsi24, Min34, Imsi50}
+use Rattle.spach.specs.declared.Channel.{Channel}
+use Rattle.spach.specs.declared.Channel.the-variants.{Arch, Smsch}
 use Rattle.spach.specs.Refusal.{Outcome, gives, refuses, andThen}
-use Rattle.spach.specs.Header.{headerAAt, addressAt}
-use Rattle.arq.specs.declared.ResponseMode.the-variants.{Contention}
+use Rattle.spach.specs.Header.{usageOf, headerAAt, addressAt}
+use Rattle.arq.specs.declared.ResponseMode.{ResponseMode}
+use Rattle.arq.specs.declared.ResponseMode.the-variants.{Contention, Reservation}
+use Rattle.arq.specs.declared.FrameKind.{FrameKind}
+use Rattle.arq.specs.declared.FrameKind.the-variants.{Begin, Continue}
 use Rattle.arq.specs.declared.ArqHeader.{ArqHeader}
 use Rattle.arq.specs.declared.ArqFrame.{ArqFrame}
 use Rattle.arq.specs.declared.PackedFrame.{PackedFrame}
-use Rattle.arq.specs.Frame.{packed, beginFrame, continueFrame, aContinue}
+use Rattle.arq.specs.Frame.{modeOf, packed, beginFrame, continueFrame, aContinue}
 use Rattle.arq.specs.Encode.{encodeOf}
 use Rattle.arq.specs.Decode.{decodeOf}
 use Rattle.arq.specs.Cut.{countOf, frameOf}
 
--- Arch, flags 0, this echo, polled or not, Contention
-abbrev echoing : ℕ → Bool → ArqHeader
-echoing e polled = record {
-  channel = Arch;
-  flags = record { «pch_continuation» = false; «bcch_change» = false; «paging_frame_modifier» = false; «reservation_response» = false };
+-- a header by channel, its four flags, echo, polling and mode
+abbrev header : Channel → Bool → Bool → Bool → Bool → ℕ → Bool → ResponseMode → ArqHeader
+header c pch bcch modifier response e polled mode = record {
+  channel = c;
+  flags = record { «pch_continuation» = pch; «bcch_change» = bcch; «paging_frame_modifier» = modifier; «reservation_response» = response };
   «partial_echo» = e;
   polling = polled;
-  «response_mode» = Contention;
+  «response_mode» = mode;
 }
+
+-- Arch, flags 0, this echo, polled or not, Contention
+abbrev echoing : ℕ → Bool → ArqHeader
+echoing e polled = header Arch false false false false e polled Contention
 
 data Sample : Type 0 where
   -- a message of so many octets, to the identity 1 of a type, needs so many frames
   counts : (type octets count : ℕ) → Sample
-  -- frame k of a message to the identity 1 of a type encodes to these octets
-  sends : ArqHeader → (type : ℕ) → (message : List ℕ) → (k : ℕ) → (frame : List ℕ) → Sample
+  -- frame k of a message to an identity encodes to these octets
+  sends : ArqHeader → MobileIdentity → (message : List ℕ) → (k : ℕ) → (frame : List ℕ) → Sample
   -- a Continue of this echo encodes (0) or is refused
   encodes : (echo number : ℕ) → Sample
   -- these octets decode (0) or are refused
   hears : List ℕ → (number : ℕ) → Sample
+  -- these octets decode to a frame of kind, usage, flags, echo, polling, mode, identity type and value, octet count, type and number
+  reads : List ℕ → (fields : List ℕ) → Sample
 
 abbrev same : List ℕ → List ℕ → Bool
 same [] [] = true
@@ -58,11 +71,39 @@ abbrev numbered : {A : Type 0} → Outcome A → ℕ → Bool
 numbered (gives a) n = eqb n 0
 numbered (refuses m) n = eqb m n
 
+-- the fields of a frame as numbers
+abbrev kindNumber : FrameKind → ℕ
+kindNumber Begin = 5
+kindNumber Continue = 6
+
+abbrev fields : ArqFrame → List ℕ
+fields f =
+    kindNumber (f .kind)
+    ∷ usageOf (f .header .channel)
+    ∷ bit (f .header .flags .«pch_continuation»)
+    ∷ bit (f .header .flags .«bcch_change»)
+    ∷ bit (f .header .flags .«paging_frame_modifier»)
+    ∷ bit (f .header .flags .«reservation_response»)
+    ∷ f .header .«partial_echo»
+    ∷ bit (f .header .polling)
+    ∷ modeOf (f .header .«response_mode»)
+    ∷ typeOf (f .identity)
+    ∷ valueOf (f .identity)
+    ∷ f .«message_octets»
+    ∷ f .«identity_type»
+    ∷ f .«frame_number»
+    ∷ []
+
+abbrev showsFields : Outcome ArqFrame → List ℕ → Bool
+showsFields (gives f) ns = same (fields f) ns
+showsFields (refuses n) ns = false
+
 abbrev holds : Sample → Bool
 holds (counts t n c) = comesTo (countOf (echoing 5 false) (identityOf t 1) (replicate n 255)) c
-holds (sends h t m k f) = packs (andThen (frameOf h (identityOf t 1) m k) encodeOf) f
+holds (sends h i m k f) = packs (andThen (frameOf h i m k) encodeOf) f
 holds (encodes e n) = numbered (encodeOf (aContinue (echoing e false) 0 0 [])) n
 holds (hears xs n) = numbered (decodeOf xs) n
+holds (reads xs ns) = showsFields (decodeOf xs) ns
 
 abbrev all : List Sample → Bool
 all [] = true
@@ -80,16 +121,27 @@ samples =
     ∷ counts 1 255 27
     ∷ counts 2 255 27
     ∷ counts 3 255 27
-    ∷ sends (echoing 5 true) 0 (0x41 ∷ []) 0 (0x61 ∷ 0x40 ∷ 0x00 ∷ 0x00 ∷ 0x21 ∷ 0x48 ∷ 0x05 ∷ 0x04 ∷ replicate 6 0)
-    ∷ sends (echoing 5 false) 0 (replicate 17 255) 0 (0x61 ∷ 0x40 ∷ 0x00 ∷ 0x00 ∷ 0x21 ∷ 0x40 ∷ 0x47 ∷ 0xff ∷ 0xff ∷ 0xff ∷ 0xff ∷ 0xff ∷ 0xff ∷ 0xf8 ∷ [])
-    ∷ sends (echoing 5 false) 0 (replicate 17 255) 1 (0x61 ∷ 0x80 ∷ 0x28 ∷ 0x03 ∷ 0xff ∷ 0xff ∷ 0xff ∷ 0xff ∷ 0xff ∷ 0xff ∷ 0xff ∷ 0xff ∷ 0xff ∷ 0xf8 ∷ [])
-    ∷ sends (echoing 5 false) 0 (replicate 17 255) 2 (0x61 ∷ 0x80 ∷ 0x28 ∷ 0x07 ∷ 0x00 ∷ 0x00 ∷ 0x00 ∷ 0x00 ∷ 0x00 ∷ 0x00 ∷ 0x00 ∷ 0x00 ∷ 0x00 ∷ 0x00 ∷ [])
-    ∷ sends (echoing 5 false) 1 (replicate 7 255) 0 (0x61 ∷ 0x50 ∷ 0x00 ∷ 0x00 ∷ 0x02 ∷ 0x14 ∷ 0x01 ∷ 0xff ∷ 0xff ∷ 0xff ∷ 0xff ∷ 0xff ∷ 0xff ∷ 0xf8 ∷ [])
-    ∷ sends (echoing 5 false) 1 (replicate 7 255) 1 (0x61 ∷ 0x90 ∷ 0x28 ∷ 0x03 ∷ 0xe0 ∷ 0x00 ∷ 0x00 ∷ 0x00 ∷ 0x00 ∷ 0x00 ∷ 0x00 ∷ 0x00 ∷ 0x00 ∷ 0x00 ∷ [])
-    ∷ sends (echoing 5 false) 2 (replicate 6 255) 0 (0x61 ∷ 0x60 ∷ 0x00 ∷ 0x00 ∷ 0x00 ∷ 0x00 ∷ 0x85 ∷ 0x00 ∷ 0x6f ∷ 0xff ∷ 0xff ∷ 0xff ∷ 0xff ∷ 0xf8 ∷ [])
-    ∷ sends (echoing 5 false) 2 (replicate 6 255) 1 (0x61 ∷ 0xa0 ∷ 0x28 ∷ 0x03 ∷ 0xf8 ∷ 0x00 ∷ 0x00 ∷ 0x00 ∷ 0x00 ∷ 0x00 ∷ 0x00 ∷ 0x00 ∷ 0x00 ∷ 0x00 ∷ [])
-    ∷ sends (echoing 5 false) 3 (replicate 4 255) 0 (0x61 ∷ 0x70 ∷ 0x00 ∷ 0x00 ∷ 0x00 ∷ 0x00 ∷ 0x00 ∷ 0x00 ∷ 0x85 ∷ 0x00 ∷ 0x4f ∷ 0xff ∷ 0xff ∷ 0xf8 ∷ [])
-    ∷ sends (echoing 5 false) 3 (replicate 4 255) 1 (0x61 ∷ 0xb0 ∷ 0x28 ∷ 0x03 ∷ 0xf8 ∷ 0x00 ∷ 0x00 ∷ 0x00 ∷ 0x00 ∷ 0x00 ∷ 0x00 ∷ 0x00 ∷ 0x00 ∷ 0x00 ∷ [])
+    ∷ sends (echoing 5 true) (identityOf 0 1) (0x41 ∷ []) 0 (0x61 ∷ 0x40 ∷ 0x00 ∷ 0x00 ∷ 0x21 ∷ 0x48 ∷ 0x05 ∷ 0x04 ∷ replicate 6 0)
+    ∷ sends (echoing 5 false) (identityOf 0 1) (replicate 17 255) 0 (0x61 ∷ 0x40 ∷ 0x00 ∷ 0x00 ∷ 0x21 ∷ 0x40 ∷ 0x47 ∷ 0xff ∷ 0xff ∷ 0xff ∷ 0xff ∷ 0xff ∷ 0xff ∷ 0xf8 ∷ [])
+    ∷ sends (echoing 5 false) (identityOf 0 1) (replicate 17 255) 1 (0x61 ∷ 0x80 ∷ 0x28 ∷ 0x03 ∷ 0xff ∷ 0xff ∷ 0xff ∷ 0xff ∷ 0xff ∷ 0xff ∷ 0xff ∷ 0xff ∷ 0xff ∷ 0xf8 ∷ [])
+    ∷ sends (echoing 5 false) (identityOf 0 1) (replicate 17 255) 2 (0x61 ∷ 0x80 ∷ 0x28 ∷ 0x07 ∷ 0x00 ∷ 0x00 ∷ 0x00 ∷ 0x00 ∷ 0x00 ∷ 0x00 ∷ 0x00 ∷ 0x00 ∷ 0x00 ∷ 0x00 ∷ [])
+    ∷ sends (echoing 5 false) (identityOf 1 1) (replicate 7 255) 0 (0x61 ∷ 0x50 ∷ 0x00 ∷ 0x00 ∷ 0x02 ∷ 0x14 ∷ 0x01 ∷ 0xff ∷ 0xff ∷ 0xff ∷ 0xff ∷ 0xff ∷ 0xff ∷ 0xf8 ∷ [])
+    ∷ sends (echoing 5 false) (identityOf 1 1) (replicate 7 255) 1 (0x61 ∷ 0x90 ∷ 0x28 ∷ 0x03 ∷ 0xe0 ∷ 0x00 ∷ 0x00 ∷ 0x00 ∷ 0x00 ∷ 0x00 ∷ 0x00 ∷ 0x00 ∷ 0x00 ∷ 0x00 ∷ [])
+    ∷ sends (echoing 5 false) (identityOf 2 1) (replicate 6 255) 0 (0x61 ∷ 0x60 ∷ 0x00 ∷ 0x00 ∷ 0x00 ∷ 0x00 ∷ 0x85 ∷ 0x00 ∷ 0x6f ∷ 0xff ∷ 0xff ∷ 0xff ∷ 0xff ∷ 0xf8 ∷ [])
+    ∷ sends (echoing 5 false) (identityOf 2 1) (replicate 6 255) 1 (0x61 ∷ 0xa0 ∷ 0x28 ∷ 0x03 ∷ 0xf8 ∷ 0x00 ∷ 0x00 ∷ 0x00 ∷ 0x00 ∷ 0x00 ∷ 0x00 ∷ 0x00 ∷ 0x00 ∷ 0x00 ∷ [])
+    ∷ sends (echoing 5 false) (identityOf 3 1) (replicate 4 255) 0 (0x61 ∷ 0x70 ∷ 0x00 ∷ 0x00 ∷ 0x00 ∷ 0x00 ∷ 0x00 ∷ 0x00 ∷ 0x85 ∷ 0x00 ∷ 0x4f ∷ 0xff ∷ 0xff ∷ 0xf8 ∷ [])
+    ∷ sends (echoing 5 false) (identityOf 3 1) (replicate 4 255) 1 (0x61 ∷ 0xb0 ∷ 0x28 ∷ 0x03 ∷ 0xf8 ∷ 0x00 ∷ 0x00 ∷ 0x00 ∷ 0x00 ∷ 0x00 ∷ 0x00 ∷ 0x00 ∷ 0x00 ∷ 0x00 ∷ [])
+    ∷ sends (header Smsch true false false false 42 false Reservation) (Tmsi24 0x800002) (replicate 7 0xa5) 0 (0x91 ∷ 0x51 ∷ 0x00 ∷ 0x00 ∷ 0x04 ∷ 0xa8 ∷ 0x41 ∷ 0xe9 ∷ 0x69 ∷ 0x69 ∷ 0x69 ∷ 0x69 ∷ 0x69 ∷ 0x68 ∷ [])
+    ∷ sends (header Smsch false true false false 42 false Reservation) (Tmsi24 0x800002) (replicate 7 0xa5) 1 (0x89 ∷ 0x91 ∷ 0x50 ∷ 0x80 ∷ 0xa0 ∷ 0x00 ∷ 0x00 ∷ 0x00 ∷ 0x00 ∷ 0x00 ∷ 0x00 ∷ 0x00 ∷ 0x00 ∷ 0x00 ∷ [])
+    ∷ sends (header Arch false false true false 85 true Contention) (Min34 (2 ^ 33 + 5)) (replicate 6 0x5a) 0 (0x65 ∷ 0x61 ∷ 0x00 ∷ 0x00 ∷ 0x00 ∷ 0x02 ∷ 0xd5 ∷ 0x20 ∷ 0x65 ∷ 0xa5 ∷ 0xa5 ∷ 0xa5 ∷ 0xa5 ∷ 0xa0 ∷ [])
+    ∷ sends (header Arch false false false true 85 true Contention) (Min34 (2 ^ 33 + 5)) (replicate 6 0x5a) 1 (0x61 ∷ 0xa6 ∷ 0xa9 ∷ 0x02 ∷ 0xd0 ∷ 0x00 ∷ 0x00 ∷ 0x00 ∷ 0x00 ∷ 0x00 ∷ 0x00 ∷ 0x00 ∷ 0x00 ∷ 0x00 ∷ [])
+    ∷ sends (header Smsch true true true true 127 true Reservation) (Imsi50 (2 ^ 50 - 1)) (replicate 255 0x81) 26 (0x9d ∷ 0xb7 ∷ 0xf9 ∷ 0xe6 ∷ 0x06 ∷ 0x06 ∷ 0x06 ∷ 0x06 ∷ 0x04 ∷ 0x00 ∷ 0x00 ∷ 0x00 ∷ 0x00 ∷ 0x00 ∷ [])
+    ∷ sends (header Arch false false false true 1 false Reservation) (Tmsi20 0x80001) (replicate 255 0x3c) 0 (0x61 ∷ 0x45 ∷ 0x00 ∷ 0x00 ∷ 0x20 ∷ 0x47 ∷ 0xfc ∷ 0xf0 ∷ 0xf0 ∷ 0xf0 ∷ 0xf0 ∷ 0xf0 ∷ 0xf0 ∷ 0xf0 ∷ [])
+    ∷ reads (0x91 ∷ 0x51 ∷ 0x00 ∷ 0x00 ∷ 0x04 ∷ 0xa8 ∷ 0x41 ∷ 0xe9 ∷ 0x69 ∷ 0x69 ∷ 0x69 ∷ 0x69 ∷ 0x69 ∷ 0x68 ∷ []) (5 ∷ 4 ∷ 1 ∷ 0 ∷ 0 ∷ 0 ∷ 42 ∷ 0 ∷ 1 ∷ 1 ∷ 0x800002 ∷ 7 ∷ 0 ∷ 0 ∷ [])
+    ∷ reads (0x89 ∷ 0x91 ∷ 0x50 ∷ 0x80 ∷ 0xa0 ∷ 0x00 ∷ 0x00 ∷ 0x00 ∷ 0x00 ∷ 0x00 ∷ 0x00 ∷ 0x00 ∷ 0x00 ∷ 0x00 ∷ []) (6 ∷ 4 ∷ 0 ∷ 1 ∷ 0 ∷ 0 ∷ 42 ∷ 0 ∷ 1 ∷ 0 ∷ 0 ∷ 0 ∷ 1 ∷ 0 ∷ [])
+    ∷ reads (0x65 ∷ 0x61 ∷ 0x00 ∷ 0x00 ∷ 0x00 ∷ 0x02 ∷ 0xd5 ∷ 0x20 ∷ 0x65 ∷ 0xa5 ∷ 0xa5 ∷ 0xa5 ∷ 0xa5 ∷ 0xa0 ∷ []) (5 ∷ 3 ∷ 0 ∷ 0 ∷ 1 ∷ 0 ∷ 85 ∷ 1 ∷ 0 ∷ 2 ∷ (2 ^ 33 + 5) ∷ 6 ∷ 0 ∷ 0 ∷ [])
+    ∷ reads (0x61 ∷ 0xa6 ∷ 0xa9 ∷ 0x02 ∷ 0xd0 ∷ 0x00 ∷ 0x00 ∷ 0x00 ∷ 0x00 ∷ 0x00 ∷ 0x00 ∷ 0x00 ∷ 0x00 ∷ 0x00 ∷ []) (6 ∷ 3 ∷ 0 ∷ 0 ∷ 0 ∷ 1 ∷ 85 ∷ 1 ∷ 0 ∷ 0 ∷ 0 ∷ 0 ∷ 2 ∷ 0 ∷ [])
+    ∷ reads (0x9d ∷ 0xb7 ∷ 0xf9 ∷ 0xe6 ∷ 0x06 ∷ 0x06 ∷ 0x06 ∷ 0x06 ∷ 0x04 ∷ 0x00 ∷ 0x00 ∷ 0x00 ∷ 0x00 ∷ 0x00 ∷ []) (6 ∷ 4 ∷ 1 ∷ 1 ∷ 1 ∷ 1 ∷ 127 ∷ 1 ∷ 1 ∷ 0 ∷ 0 ∷ 0 ∷ 3 ∷ 25 ∷ [])
     ∷ encodes 127 0
     ∷ encodes 128 11
     ∷ hears (0x61 ∷ 0x80 ∷ 0x28 ∷ 0x64 ∷ 0x00 ∷ 0x00 ∷ 0x00 ∷ 0x00 ∷ 0x00 ∷ 0x00 ∷ 0x00 ∷ 0x00 ∷ 0x00 ∷ 0x00 ∷ []) 0

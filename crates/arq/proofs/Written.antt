@@ -25,7 +25,7 @@ use Rattle.arq.specs.declared.ResponseMode.{ResponseMode}
 use Rattle.arq.specs.declared.ResponseMode.the-variants.{Contention, Reservation}
 use Rattle.arq.specs.declared.ArqHeader.{ArqHeader}
 use Rattle.arq.specs.declared.ArqFrame.{ArqFrame}
-use Rattle.arq.specs.Frame.{modeOf, control, begin, continue, room, beginData, continueData, packed, beginFrame, continueFrame}
+use Rattle.arq.specs.Frame.{modeOf, restOf, begin, continue, room, beginData, continueData, packed, beginFrame, continueFrame}
 
 -- a layout written as the number that it is
 pub put-layout : (o : ℕ) (fs : List (ℕ × ℕ)) (bs : List Bool) {v : ℕ} → v ≡ value (layout fs) → put o (total fs) v bs ≡ splice o (layout fs) bs
@@ -91,7 +91,7 @@ module _ (f : ArqFrame) where
       → p ≡ splice 0 (layout a) (bitsOf (replicate 14 0))
       → q ≡ splice 7 (layout (headerB 5 (k .«identity_type») (f .header .flags))) p
       → s ≡ splice 14 (layout (address (f .identity))) q
-      → t ≡ splice (15 + k .width) (layout (control (f .header) ++ (8, f .«message_octets») ∷ [])) s
+      → t ≡ splice (15 + k .width) (layout (restOf (f .header) ++ (8, f .«message_octets») ∷ [])) s
       → r ≡ octets 14 (splice (34 + k .width) (beginData f) t)
       → r ≡ beginFrame f .octets
   unfolding beginFrame packed
@@ -104,14 +104,14 @@ module _ (f : ArqFrame) where
       let e1 = ep ∙ ap (splice 0 (layout a)) (blank-bits 14) in
       let e2 = eq ∙ ap (λ (x : IdentityParts). splice 7 (layout (headerB 5 (x .«identity_type») (h .flags))) p) ek ∙ part a b 7 refl (omega arith) e1 in
       let e3 = es ∙ part (a ++ b) (address i) 14 refl (omega arith) e2 in
-      let e4 = et ∙ ap (λ (x : IdentityParts). splice (15 + x .width) (layout (control h ++ (8, f .«message_octets») ∷ [])) s) ek ∙ part (a ++ b ++ address i) (control h ++ (8, f .«message_octets») ∷ []) (15 + widthOf (typeOf i)) (omega arith) (omega arith) e3 in
+      let e4 = et ∙ ap (λ (x : IdentityParts). splice (15 + x .width) (layout (restOf h ++ (8, f .«message_octets») ∷ [])) s) ek ∙ part (a ++ b ++ address i) (restOf h ++ (8, f .«message_octets») ∷ []) (15 + widthOf (typeOf i)) (omega arith) (omega arith) e3 in
       er ∙ ap (λ (x : IdentityParts). octets 14 (splice (34 + x .width) (beginData f) t)) ek ∙ ap (octets 14) (whole (begin h i (f .«message_octets»)) (beginData f) (34 + widthOf (typeOf i)) (omega arith) (omega arith) e4)
 
   -- header A, header B, rest, data
   pub continue-written : {r : List ℕ} {p q s : List Bool}
       → p ≡ splice 0 (layout a) (bitsOf (replicate 14 0))
       → q ≡ splice 7 (layout (headerB 6 (f .«identity_type») (f .header .flags))) p
-      → s ≡ splice 14 (layout (control (f .header) ++ (5, f .«frame_number») ∷ [])) q
+      → s ≡ splice 14 (layout (restOf (f .header) ++ (5, f .«frame_number») ∷ [])) q
       → r ≡ octets 14 (splice 30 (continueData f) s)
       → r ≡ continueFrame f .octets
   unfolding continueFrame packed
@@ -121,7 +121,7 @@ module _ (f : ArqFrame) where
       let l = length-take 79 (bitsOf (f .«continue_data»)) in
       let e1 = ep ∙ ap (splice 0 (layout a)) (blank-bits 14) in
       let e2 = eq ∙ part a b 7 refl (omega arith) e1 in
-      let e3 = es ∙ part (a ++ b) (control h ++ (5, f .«frame_number») ∷ []) 14 refl (omega arith) e2 in
+      let e3 = es ∙ part (a ++ b) (restOf h ++ (5, f .«frame_number») ∷ []) 14 refl (omega arith) e2 in
       er ∙ ap (octets 14) (whole (continue h (f .«identity_type») (f .«frame_number»)) (continueData f) 30 refl (omega arith) e3)
 
 -- ---- the numbers of the parts
@@ -150,7 +150,7 @@ pub header-b-number : (k t : ℕ) (f : HeaderFlags) {r : ℕ} → k < 8 → r �
 header-b-number k t f h er =
     omega (arith, value-layout (headerB k t f), mod-eq-of-lt {n = k} {m = 2 ^ 3} h, bit-small (f .«reservation_response»))
 
-pub control-number : (h : ArqHeader) {p m : ℕ} → p ≡ bit (h .polling) → m ≡ modeOf (h .«response_mode»)
-    → ((h .«partial_echo» % 128 * 4) * 2 + p) * 2 + m ≡ value (layout (control h))
-control-number h ep em =
-    omega (arith, value-layout (control h), bit-small (h .polling), mode-small (h .«response_mode»))
+pub rest-number : (h : ArqHeader) {p m : ℕ} → p ≡ bit (h .polling) → m ≡ modeOf (h .«response_mode»)
+    → ((h .«partial_echo» % 128 * 4) * 2 + p) * 2 + m ≡ value (layout (restOf h))
+rest-number h ep em =
+    omega (arith, value-layout (restOf h), bit-small (h .polling), mode-small (h .«response_mode»))

@@ -1,5 +1,10 @@
 -- 01, *Decode*: not 14 octets 1; padding 15; usage not 3, 4, 7 3; fourth flag 6; Pch 3; kind 4; Begin's bit after the
--- type 4; encrypted 5; identity zero 2; reserved 6; Begin filler 7; Continue number over 25 12. Assumes nothing.
+-- type 4; encrypted 5; identity zero 2; reserved 6; Begin filler 7; Continue number over 25 12.
+-- The offsets are those of the tables in Frame.antt: header A has bits 0 to 6; header B the kind at 7, the identity type at
+-- 10, the bit after it at 12, the reservation response at 13. A Begin's address is the encrypted bit at 14 and the identity
+-- from 15 on; its rest starts where the identity ends. A Continue's rest starts at 14, so its number is at 25, its data at 30.
+-- In the rest, echo has 7 bits, then reserved 2 (at 7), polling (at 9), mode (at 10); the octet count follows at 11, a Begin's
+-- data at 19. 109 bits in all; the padding is 3 more. The round trips of Theorems.antt tie the two readings. Assumes nothing.
 use mathlib.Core.Bool.{Bool, cond, not}
 use mathlib.Core.List.{List}
 use Prim.Native.Nat.{ℕ, _+_, _*_}
@@ -21,7 +26,7 @@ use Rattle.arq.specs.Frame.{room, aBegin, aContinue}
 abbrev pub modeAt : Bool → ResponseMode
 modeAt set = cond set Reservation Contention
 
--- what both kinds have at offset o, after their address: echo 7 bits, reserved 2, polling, response mode
+-- the rest at offset o, which both kinds have: echo 7 bits, reserved 2, polling, response mode
 abbrev pub headerAt : HeaderA → Bool → ℕ → List Bool → ArqHeader
 headerAt a response o bs = record {
   channel = a .channel;

@@ -31,6 +31,7 @@ beginChecked f o =
 abbrev pub continueChecked : {A : Type 0} → ArqFrame → Outcome A → Outcome A
 continueChecked f o = refuse (ltb 25 (f .«frame_number»)) 12 o
 
+-- the first for a Begin, the second for a Continue
 abbrev pub byKind : {A : Type 0} → FrameKind → A → A → A
 byKind Begin a b = a
 byKind Continue a b = b

@@ -24,9 +24,9 @@ abbrev pub modeOf : ResponseMode → ℕ
 modeOf Contention = 0
 modeOf Reservation = 1
 
--- what both kinds have after their address: echo 7 bits, reserved 2, polling, response mode
-abbrev pub control : ArqHeader → List (ℕ × ℕ)
-control h =
+-- what follows header B and, in a Begin, the address: echo 7 bits, reserved 2, polling, response mode
+abbrev pub restOf : ArqHeader → List (ℕ × ℕ)
+restOf h =
     (7, h .«partial_echo»)
     ∷ (2, 0)
     ∷ (1, bit (h .polling))
@@ -35,11 +35,11 @@ control h =
 
 -- a Begin up to its data: header A, header B with kind 5, address, the rest with octet count 8
 abbrev pub begin : ArqHeader → MobileIdentity → ℕ → List (ℕ × ℕ)
-begin h i n = headerA (h .channel) (h .flags) ++ headerB 5 (typeOf i) (h .flags) ++ address i ++ control h ++ (8, n) ∷ []
+begin h i n = headerA (h .channel) (h .flags) ++ headerB 5 (typeOf i) (h .flags) ++ address i ++ restOf h ++ (8, n) ∷ []
 
 -- a Continue up to its data: header A, header B with kind 6, the rest with number 5
 abbrev pub continue : ArqHeader → ℕ → ℕ → List (ℕ × ℕ)
-continue h t k = headerA (h .channel) (h .flags) ++ headerB 6 t (h .flags) ++ control h ++ (5, k) ∷ []
+continue h t k = headerA (h .channel) (h .flags) ++ headerB 6 t (h .flags) ++ restOf h ++ (5, k) ∷ []
 
 -- Begin data holds 75 − width bits: 55, 51, 41, 25
 abbrev pub room : MobileIdentity → ℕ

@@ -37,7 +37,7 @@ fn least(a: usize, b: usize) -> usize
 }
 
 // A Begin, and as many Continues as what it has no room for needs.
-fn frames_of(identity: MobileIdentity, octets: usize) -> usize
+pub fn frames_of(identity: MobileIdentity, octets: usize) -> usize
     requires { ⌜ octets ≤ 255 ⌝ }
     ensures { λ r. ⌜ r ≡ 1 + continues identity octets ⌝ }
 {

@@ -31,7 +31,7 @@ fn mode_of(bit: u64) -> ResponseMode
     ResponseMode::Contention
 }
 
-// What both kinds have at bit offset o, after their address, taken as one number.
+// The rest at bit offset o, which both kinds have, taken as one number.
 fn read_header(octets: &[u8], a: HeaderA, response: bool, o: usize) -> ArqHeader
     requires { ⌜ Run (now octets) o 11 ⌝ }
     ensures { λ r. ⌜ r ≡ headerAt a response o (bitsOf (now (octets .entry))) ⌝ }

@@ -12,7 +12,7 @@ ghost use lib.ListN.{take};
 ghost use Rattle.field.specs.Bits.{bit, value, bitsOf, put, splice, Packs, Run};
 ghost use Rattle.field.specs.Layout.{layout};
 ghost use Rattle.spach.specs.Header.{headerA, headerB, address};
-ghost use Rattle.arq.specs.Frame.{modeOf, control, room, beginFrame, continueFrame};
+ghost use Rattle.arq.specs.Frame.{modeOf, restOf, room, beginFrame, continueFrame};
 
 fn flag(b: bool) -> u64
     ensures { λ r. ⌜ (r ≡ bit b) × (r < 2) ⌝ }
@@ -50,9 +50,9 @@ fn header_b_number(kind: u64, identity_type: u8, flags: HeaderFlags) -> u64
     ((kind * 4 + two) * 2) * 2 + response
 }
 
-// What both kinds have after their address, eleven bits, as one number. Of the echo only the low seven bits are written.
-fn control_number(header: ArqHeader) -> u64
-    ensures { λ r. ⌜ r ≡ value (layout (control header)) ⌝ }
+// What follows header B and, in a Begin, the address, eleven bits, as one number. Of the echo only the low seven bits are written.
+fn rest_number(header: ArqHeader) -> u64
+    ensures { λ r. ⌜ r ≡ value (layout (restOf header)) ⌝ }
 {
     let echo = (header.partial_echo % 128) as u64;
     let polling = flag(header.polling);
@@ -99,9 +99,9 @@ fn with_address(f: [u8; 14], identity: MobileIdentity) -> [u8; 14]
 // The rest at bit offset o: what both kinds have, then a last field of w bits.
 fn with_rest(f: [u8; 14], o: usize, header: ArqHeader, w: usize, last: u64) -> [u8; 14]
     requires { ⌜ (1 ≤ w) × (w ≤ 50) × (o + 11 + w ≤ 112) ⌝ }
-    ensures { λ r. ⌜ Packs r 14 (splice o (layout (control header ++ (w, last) ∷ [])) (bitsOf f)) ⌝ }
+    ensures { λ r. ⌜ Packs r 14 (splice o (layout (restOf header ++ (w, last) ∷ [])) (bitsOf f)) ⌝ }
 {
-    let g = with_field(f, o, 11, control_number(header));
+    let g = with_field(f, o, 11, rest_number(header));
     with_field(g, o + 11, w, last)
 }
 

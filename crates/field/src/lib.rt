@@ -69,7 +69,7 @@ fn window_size(octets: usize) -> usize
     if octets < 8 { octets } else { 8 }
 }
 
-// Where the n octets start that hold the field at bit offset o: at its own octet or, near the end, n before that.
+// Where the n octets start that hold the field at bit offset o: at its own octet or, near the end, n before the end.
 fn window_start(octets: usize, n: usize, o: usize) -> usize
     requires { ⌜ n ≤ octets ⌝ }
     ensures { λ r. ⌜ r ≡ min (o / 8) (octets - n) ⌝ }

@@ -5,13 +5,13 @@ use native.Mathlib.Omega.{arith}
 use borrow.Author.Needs.{needs}
 use Rattle.field.specs.Bits.{bitsOf, put}
 use Rattle.field.proofs.Laws.{repack, length-bitsOf}
-use Rattle.arq.specs.Frame.{control}
+use Rattle.arq.specs.Frame.{restOf}
 use Rattle.arq.proofs.Written.{put-layout, put-more}
 use Rattle.arq.proofs.write.with_rest.Statement.{statement}
 use Rattle.arq.proofs.write.with_rest.Tie as tie
 
-control-number-requires : tie.Need-control-number-requires
-control-number-requires c κs = search needs
+rest-number-requires : tie.Need-rest-number-requires
+rest-number-requires c κs = search needs
 
 with-field-requires : tie.Need-with-field-requires
 with-field-requires c κs = search needs
@@ -25,16 +25,16 @@ with-field-requires-2 c κs = search needs
 returns : tie.Need-returns
 returns c =
     let a = c .before .before .before .args in
-    let e = c .before .with-field .ensures .as-bits ∙ put-layout (a .o) (control (a .header)) (bitsOf (a .f)) (c .before .before .control-number .ensures) in
+    let e = c .before .with-field .ensures .as-bits ∙ put-layout (a .o) (restOf (a .header)) (bitsOf (a .f)) (c .before .before .rest-number .ensures) in
     repack (c .with-field2 .ensures)
     (ap (put (a .o + 11) (a .w) (a .last)) e
-    ∙ put-more (a .o) (a .o + 11) (a .w) (a .last) (control (a .header)) (bitsOf (a .f)) refl (omega (arith, length-bitsOf (a .f))))
+    ∙ put-more (a .o) (a .o + 11) (a .w) (a .last) (restOf (a .header)) (bitsOf (a .f)) refl (omega (arith, length-bitsOf (a .f))))
 
 pub with-rest-spec : {M : Type 1} → statement M
 with-rest-spec =
     tie.close
     (tie.spec
-    control-number-requires
+    rest-number-requires
     with-field-requires
     add-with-field
     with-field-requires-2

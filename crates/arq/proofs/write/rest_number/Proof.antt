@@ -1,8 +1,8 @@
--- `arq::write::control_number` meets its contract. Assumes nothing.
+-- `arq::write::rest_number` meets its contract. Assumes nothing.
 use borrow.Author.Needs.{needs}
-use Rattle.arq.proofs.Written.{control-number}
-use Rattle.arq.proofs.write.control_number.Statement.{statement}
-use Rattle.arq.proofs.write.control_number.Tie as tie
+use Rattle.arq.proofs.Written.{rest-number}
+use Rattle.arq.proofs.write.rest_number.Statement.{statement}
+use Rattle.arq.proofs.write.rest_number.Tie as tie
 
 cast-echo : tie.Need-cast-echo
 cast-echo c = search needs
@@ -29,10 +29,10 @@ add-result-2 : tie.Need-add-result-2
 add-result-2 c = search needs
 
 returns : tie.Need-returns
-returns c = control-number (c .before .before .before .args .header) (c .before .flag .ensures .0) (c .mode .ensures .0)
+returns c = rest-number (c .before .before .before .args .header) (c .before .flag .ensures .0) (c .mode .ensures .0)
 
-pub control-number-spec : {M : Type 1} → statement M
-control-number-spec =
+pub rest-number-spec : {M : Type 1} → statement M
+rest-number-spec =
     tie.close
     (tie.spec
     cast-echo
