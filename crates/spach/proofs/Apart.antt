@@ -7,6 +7,7 @@ use Rattle.rach.specs.declared.MobileIdentity.{MobileIdentity}
 use Rattle.spach.specs.declared.SpachError.{SpachError}
 use Rattle.spach.specs.declared.SpachError.the-variants.{Length, Identity, UnsupportedUsage, UnsupportedFrame, Encrypted, Reserved, Filler, PartialEcho, FrameNumber, Payload, DuplicateConflict, Padding, Room}
 use Rattle.spach.specs.declared.Channel.{Channel}
+use Rattle.spach.specs.declared.Channel.the-variants.{Arch, Smsch, Pch}
 use Rattle.spach.specs.declared.HeaderA.{HeaderA}
 use Rattle.spach.specs.declared.Address.{Address}
 use Rattle.spach.specs.declared.Verdict.{Verdict}
@@ -21,7 +22,7 @@ use Rattle.spach.specs.declared.AddressAnswer.{AddressAnswer}
 use Rattle.spach.specs.declared.AddressAnswer.the-variants as addresses
 use Rattle.spach.specs.Refusal.{numberOf, Outcome, gives, refuses, verdictOf}
 use Rattle.spach.specs.Identity.{identityAnswer}
-use Rattle.spach.specs.Header.{channelAnswer, headerAAnswer, addressAnswer}
+use Rattle.spach.specs.Header.{usageOf, channelAnswer, headerAAnswer, addressAnswer}
 
 -- a reading that can be undone tells its arguments apart
 pub apart : {A B : Type 0} (read : A → B) (back : B → A) → ((a : A) → back (read a) ≡ a) → (a b : A) → read a ≡ read b → a ≡ b
@@ -72,6 +73,18 @@ verdicts-apart = apart verdictOf (answer (λ u. verdicts.Accepted) verdicts.Refu
     undo : (a : Verdict) → answer (λ u. verdicts.Accepted) verdicts.Refused (verdictOf a) ≡ a
     undo verdicts.Accepted = refl
     undo (verdicts.Refused e) = ap verdicts.Refused (error-number e)
+
+-- the channel of a usage
+abbrev pub channelBy : ℕ → Channel
+channelBy u = cond (eqb u 3) Arch (cond (eqb u 4) Smsch Pch)
+
+pub usages-apart : (a b : Channel) → usageOf a ≡ usageOf b → a ≡ b
+usages-apart = apart usageOf channelBy undo
+  where
+    undo : (a : Channel) → channelBy (usageOf a) ≡ a
+    undo Arch = refl
+    undo Smsch = refl
+    undo Pch = refl
 
 pub identities-apart : (a b : IdentityAnswer) → identityAnswer a ≡ identityAnswer b → a ≡ b
 identities-apart = apart identityAnswer (answer identities.Identity identities.Refused) undo

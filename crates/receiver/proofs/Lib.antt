@@ -1,0 +1,11 @@
+pub mod Maps
+pub mod Slots
+pub mod Heard
+pub mod Pieces
+pub mod Ways
+pub mod Valid
+pub mod Laws
+pub mod Kept
+pub mod Whole
+pub mod Instance
+pub mod Wrong
