@@ -9,3 +9,6 @@ pub mod Kept
 pub mod Whole
 pub mod Instance
 pub mod Wrong
+pub mod Octets
+pub mod Assembled
+pub mod Pushes

@@ -23,6 +23,7 @@ use Rattle.receiver.specs.declared.Transaction.{Transaction}
 use Rattle.receiver.specs.declared.ArqReassembler.{ArqReassembler}
 use Rattle.receiver.specs.declared.Made.{Made}
 use Rattle.receiver.specs.declared.ArqStatus.{ArqStatus}
+use Rattle.receiver.specs.declared.SingleMessage.{SingleMessage}
 use Rattle.receiver.specs.declared.Delivery.{Delivery}
 use Rattle.receiver.specs.declared.Delivery.the-variants as deliveries
 use Rattle.receiver.specs.declared.StatusAnswer.{StatusAnswer}
@@ -143,6 +144,15 @@ assembled s =
     let n = s .transaction .«message_octets» in
     octets n (take (8 * n) (take (room (s .identity)) (bitsOf (s .transaction .«begin_data»)) ++ gathered (s .slots) 0 (needed s)))
 
+-- what a delivery says: channel, flags and identity of the Begin, and the length
+abbrev pub messageOf : ArqReassembler → SingleMessage
+messageOf s = record {
+  channel = s .transaction .channel;
+  flags = s .transaction .flags;
+  identity = s .identity;
+  length = s .transaction .«message_octets»;
+}
+
 -- ---- push
 
 -- what a push leaves: the outcome, the state, the lent buffer
@@ -163,14 +173,7 @@ unfoldable pub finish : ArqFrame → ArqReassembler → List ℕ → Out
 finish f s b =
     cond (due s)
     (record {
-      outcome = gives (Accepted
-          (deliveries.Message (record {
-            channel = s .transaction .channel;
-            flags = s .transaction .flags;
-            identity = s .identity;
-            length = s .transaction .«message_octets»;
-          }))
-          (requestOf f s));
+      outcome = gives (Accepted (deliveries.Message (messageOf s)) (requestOf f s));
       receiver = marked s;
       buffer = assembled s ++ drop (s .transaction .«message_octets») b;
     })

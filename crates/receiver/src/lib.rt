@@ -1,10 +1,18 @@
 // ArqReassembler: frames of one transfer put together again.
+pub mod message;
+pub mod push;
+pub mod slot;
+pub mod state;
+
 use arq::ResponseMode;
 use rach::MobileIdentity;
 use spach::Channel;
 use spach::HeaderFlags;
 use spach::SpachError;
 use spach::Verdict;
+ghost use mathlib.Core.Path.{_≡_};
+ghost use Rattle.spach.specs.Refusal.{answered};
+ghost use Rattle.receiver.specs.Receiver.{newOf, blankReceiver, madeAnswer, resetOf, statusAnswer, completeOf, pushOf, pushed};
 
 // What a Begin opened: its header's channel, flags and echo, its octet count and its data. Without one nothing is held.
 pub struct Transaction {
@@ -79,4 +87,69 @@ pub enum PushAnswer {
 pub struct Pushed {
     pub receiver: ArqReassembler,
     pub answer: PushAnswer,
+}
+
+impl ArqReassembler {
+    // A receiver for an identity that can be encoded, or a refusal 2 and a blank one.
+    pub fn try_new(identity: MobileIdentity) -> Made
+        ensures { λ r. ⌜ madeAnswer r ≡ answered blankReceiver (newOf identity) ⌝ }
+    {
+        let verdict = spach::check_identity(identity);
+        match verdict {
+            Verdict::Accepted => Made {
+                verdict: Verdict::Accepted,
+                receiver: state::fresh_receiver(identity),
+            },
+            Verdict::Refused(error) => Made {
+                verdict: Verdict::Refused(error),
+                receiver: state::fresh_receiver(MobileIdentity::Tmsi20(0)),
+            },
+        }
+    }
+
+    // Nothing is held afterwards.
+    pub fn reset(self) -> ArqReassembler
+        ensures { λ r. ⌜ r ≡ resetOf self ⌝ }
+    {
+        let identity = self.identity;
+        state::fresh_receiver(identity)
+    }
+
+    // Echo and map of the transaction held.
+    pub fn status(self) -> StatusAnswer
+        ensures { λ r. ⌜ r ≡ statusAnswer self ⌝ }
+    {
+        let t = self.transaction;
+        if !t.held {
+            return StatusAnswer::Nothing;
+        }
+        StatusAnswer::Status(state::status_of(self))
+    }
+
+    // Whether the transaction held has delivered its message.
+    pub fn complete(self) -> bool
+        ensures { λ r. ⌜ r ≡ completeOf self ⌝ }
+    {
+        let t = self.transaction;
+        if !t.held {
+            return false;
+        }
+        self.delivered
+    }
+
+    // Hears the octets of a frame. A complete message goes to the front of the buffer.
+    pub fn push(self, octets: &[u8], buffer: &mut [u8]) -> Pushed
+        ensures { λ r. ⌜ pushed r (now (buffer .exit)) ≡ pushOf self (now (octets .entry)) (now (buffer .entry)) ⌝ }
+    {
+        if buffer.len() < 255 {
+            return push::refused(self, SpachError::Room);
+        }
+        let decoded = arq::read::decode(octets);
+        let verdict = decoded.verdict;
+        let frame = decoded.frame;
+        if let Verdict::Refused(error) = verdict {
+            return push::refused(self, error);
+        }
+        push::push_frame(self, frame, buffer)
+    }
 }
