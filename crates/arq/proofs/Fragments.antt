@@ -104,3 +104,12 @@ module _ (h : ArqHeader) (i : MobileIdentity) (m : List ℕ) where
 
         pub frame-cut : {f : ArqFrame} → k < n → f ≡ cutFrame h i m k → (gives tt, f) ≡ answered blankFrame (frameOf h i m k)
         frame-cut hk ef = ap (λ x. (gives tt, x)) ef ∙ ap (answered blankFrame) (rw (lt-ltb k n hk) at given)
+
+-- a message that has a frame has a count of them
+pub counted : (h : ArqHeader) (i : MobileIdentity) (m : List ℕ) (k : ℕ) {f : ArqFrame} → frameOf h i m k ≡ gives f → countOf h i m ≡ gives (1 + continues i (length m))
+unfolding frameOf countOf
+counted h i m k {f} e = cut-checked h i m (gives (1 + continues i (length m))) ∙ go (cutChecked h i m (gives tt)) (sym (cut-checked h i m (within h i m k (1 + continues i (length m)))) ∙ e)
+  where
+    go : (x : Outcome (Unit {0})) → checked x (within h i m k (1 + continues i (length m))) ≡ gives f → checked x (gives (1 + continues i (length m))) ≡ gives (1 + continues i (length m))
+    go (gives u) q = refl
+    go (refuses n) q = let z : _≡_ {A = ℕ} 0 1 = cc in absurd (omega arith)

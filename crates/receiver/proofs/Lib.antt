@@ -12,3 +12,4 @@ pub mod Wrong
 pub mod Octets
 pub mod Assembled
 pub mod Pushes
+pub mod Apart
