@@ -1,16 +1,14 @@
 // The port's side of the differential test: runs a script of operations and answers in octets.
-mod headers;
-mod identities;
-mod octets;
-mod store;
 mod table;
 mod timing;
 
+use script_leaf::headers;
+use script_leaf::identities;
 ghost use mathlib.Core.Path.{_≡_};
 ghost use Prim.Native.Nat.{_+_, _≤_};
 ghost use lib.ListN.{length, drop};
 ghost use Rattle.script.specs.Table.{operandsOf, longestOf};
-ghost use Rattle.script.specs.Answer.{Ready, Answered};
+ghost use Rattle.script_wire.specs.Answer.{Ready, Answered};
 
 // Operations 1 to 4.
 fn run_identity(op: u8, script: &[u8], at: usize, answers: &mut [u8], to: usize) -> usize
@@ -38,17 +36,46 @@ fn run_store(
     ensures { λ r. ⌜ Answered (longestOf op) to r (now (answers .entry)) (now (answers .exit)) ⌝ }
 {
     match op {
-        7 => store::op_take(script, at, store, answers, to),
-        8 => store::op_put(script, at, store, answers, to),
-        9 => store::op_fill(script, at, store, answers, to),
-        10 => store::op_dump(store, answers, to),
-        _ => store::op_copy(script, at, store, answers, to),
+        7 => script_store::op_take(script, at, store, answers, to),
+        8 => script_store::op_put(script, at, store, answers, to),
+        9 => script_store::op_fill(script, at, store, 8, answers, to),
+        10 => script_store::op_dump(store, answers, to),
+        _ => script_store::op_copy(script, at, store, answers, to),
+    }
+}
+
+// Operations 12 to 16.
+fn run_codec(
+    op: u8,
+    script: &[u8],
+    at: usize,
+    message: &mut [u8],
+    answers: &mut [u8],
+    to: usize,
+) -> usize
+    requires { ⌜ Ready (operandsOf op) (longestOf op) at to (now script) (now answers) × (length (now message) ≡ 304) × (12 ≤ op) × (op ≤ 16) ⌝ }
+    ensures { λ r. ⌜ Answered (longestOf op) to r (now (answers .entry)) (now (answers .exit)) ⌝ }
+{
+    match op {
+        12 => script_codec::op_encode(script, at, answers, to),
+        13 => script_codec::op_decode(script, at, answers, to),
+        14 => script_store::op_fill(script, at, message, 38, answers, to),
+        15 => script_codec::op_count(script, at, message, answers, to),
+        _ => script_codec::op_frame(script, at, message, answers, to),
     }
 }
 
 // One operation, with its operands at `at` and its answer at `to`; how many octets it answered.
-fn run(op: u8, script: &[u8], at: usize, store: &mut [u8], answers: &mut [u8], to: usize) -> usize
-    requires { ⌜ Ready (operandsOf op) (longestOf op) at to (now script) (now answers) × (length (now store) ≡ 64) × (1 ≤ longestOf op) ⌝ }
+fn run(
+    op: u8,
+    script: &[u8],
+    at: usize,
+    store: &mut [u8],
+    message: &mut [u8],
+    answers: &mut [u8],
+    to: usize,
+) -> usize
+    requires { ⌜ Ready (operandsOf op) (longestOf op) at to (now script) (now answers) × (length (now store) ≡ 64) × (length (now message) ≡ 304) × (1 ≤ longestOf op) ⌝ }
     ensures { λ r. ⌜ Answered (longestOf op) to r (now (answers .entry)) (now (answers .exit)) ⌝ }
 {
     if op < 5 {
@@ -60,10 +87,13 @@ fn run(op: u8, script: &[u8], at: usize, store: &mut [u8], answers: &mut [u8], t
     if op == 6 {
         return headers::op_address(script, at, answers, to);
     }
-    run_store(op, script, at, store, answers, to)
+    if op < 12 {
+        return run_store(op, script, at, store, answers, to);
+    }
+    run_codec(op, script, at, message, answers, to)
 }
 
-// Runs the script on a store of zeros. How many octets were answered, the end octet with them; all others stay.
+// Runs the script on a store and a message of zeros. How many octets were answered, the end octet with them; all others stay.
 #[no_mangle]
 pub extern "C" fn script_run(script: &[u8], answers: &mut [u8]) -> usize
     ensures { λ r. ⌜ (r ≤ length (now (answers .entry))) × (drop r (now (answers .exit)) ≡ drop r (now (answers .entry))) ⌝ }
@@ -72,6 +102,7 @@ pub extern "C" fn script_run(script: &[u8], answers: &mut [u8]) -> usize
         return 0;
     }
     let mut store = [0u8; 64];
+    let mut message = [0u8; 304];
     let mut at: usize = 0;
     let mut to: usize = 0;
     while at < script.len() {
@@ -79,10 +110,10 @@ pub extern "C" fn script_run(script: &[u8], answers: &mut [u8]) -> usize
         at += 1;
         let end = table::ended(op, script.len() - at, answers.len() - to);
         if end != 0 {
-            return to + octets::answer(answers, to, end);
+            return to + script_wire::answer(answers, to, end);
         }
-        to += run(op, script, at, &mut store, answers, to);
+        to += run(op, script, at, &mut store, &mut message, answers, to);
         at += table::operands(op);
     }
-    to + octets::answer(answers, to, 0xe0)
+    to + script_wire::answer(answers, to, 0xe0)
 }

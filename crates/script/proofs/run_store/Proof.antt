@@ -22,7 +22,7 @@ op-fill-requires : tie.Need-op-fill-requires
 unfolding operandsOf longestOf
 op-fill-requires c κs =
     let s = c .before .before .before .before .before .before in
-    (ready (s .args .op) 9 (omega arith) (s .pre .0), s .pre .1)
+    (ready (s .args .op) 9 (omega arith) (s .pre .0), omega arith)
 
 op-dump-requires : tie.Need-op-dump-requires
 unfolding operandsOf longestOf

@@ -1,27 +1,27 @@
--- `script_run` meets its contract. The invariant: the store has its 64 octets, the end octet has room at `to`, and the answers
+-- `script_run` meets its contract. The invariant: store and message have their octets, the end octet has room at `to`, and the answers
 -- from there on are as they were. Assumes nothing.
 use mathlib.Core.Path.{_≡_, refl}
 use Prim.Native.Nat.{_≤_, _<_, _-_}
 use native.Mathlib.Omega.{arith}
 use lib.ListN.{length}
-use Rattle.script.specs.Answer.{Kept}
-use Rattle.script.proofs.Laws.{kept-none, kept-join}
+use Rattle.script_wire.specs.Answer.{Kept}
+use Rattle.script_wire.proofs.Laws.{kept-none, kept-join}
 use borrow.Author.Needs.{needs}
 use Rattle.script.proofs.script_run.Statement.{statement}
 use Rattle.script.proofs.script_run.Tie as tie
 
 abbrev Inv-loop : tie.InvT-loop
-Inv-loop script answers₀ store₀ at₀ to₀ answers store at to =
-    (at ≤ length script) × (to < length answers) × (length answers ≡ length answers₀) × (length store ≡ 64) × Kept to answers₀ answers
+Inv-loop script answers₀ store₀ message₀ at₀ to₀ answers store message at to =
+    (at ≤ length script) × (to < length answers) × (length answers ≡ length answers₀) × (length store ≡ 64) × (length message ≡ 304) × Kept to answers₀ answers
 
 abbrev μ-loop : tie.MeasureT-loop
-μ-loop script answers₀ store₀ at₀ to₀ answers store at to = length script - at
+μ-loop script answers₀ store₀ message₀ at₀ to₀ answers store message at to = length script - at
 
 returns : tie.Need-returns Inv-loop μ-loop
 returns c = (omega arith, refl)
 
 loop-holds : tie.Need-loop-holds Inv-loop μ-loop
-loop-holds c = (omega arith, omega arith, refl, refl, kept-none)
+loop-holds c = (omega arith, omega arith, refl, refl, refl, kept-none)
 
 shared-slice-read-op : tie.Need-shared-slice-read-op Inv-loop μ-loop
 shared-slice-read-op c = search needs
@@ -50,20 +50,23 @@ same-length c = search needs
 returns-2 : tie.Need-returns-2 Inv-loop μ-loop
 returns-2 c =
     let at = c .before .before .before .before .before .before .before .before in
-    (omega arith, kept-join (at .loop .inv .4) (c .before .before .answer .ensures .kept) (omega arith) .rest)
+    (omega arith, kept-join (at .loop .inv .5) (c .before .before .answer .ensures .kept) (omega arith) .rest)
 
 slice-aggregate-run : tie.Need-slice-aggregate-run Inv-loop μ-loop
 slice-aggregate-run c = search needs
 
+slice-aggregate-run-2 : tie.Need-slice-aggregate-run-2 Inv-loop μ-loop
+slice-aggregate-run-2 c = search needs
+
 run-requires : tie.Need-run-requires Inv-loop μ-loop
 run-requires c κs =
-    let test = c .before .before in
+    let test = c .before .before .before in
     let go = test .before .ended .ensures (test .if2 .left) in
-    (record { operands-there = omega arith; room = omega arith }, search needs, go .0)
+    (record { operands-there = omega arith; room = omega arith }, search needs, search needs, go .0)
 
 add-to : tie.Need-add-to Inv-loop μ-loop
 add-to c =
-    let test = c .before .before .before .before .before .before in
+    let test = c .before .before .before .before .before .before .before .before in
     let go = test .before .ended .ensures (test .if2 .left) in
     omega arith
 
@@ -72,7 +75,7 @@ operands-requires c κs = search needs
 
 add-at-2 : tie.Need-add-at-2 Inv-loop μ-loop
 add-at-2 c =
-    let test = c .before .before .before .before .before .before .before in
+    let test = c .before .before .before .before .before .before .before .before .before in
     let go = test .before .ended .ensures (test .if2 .left) in
     omega arith
 
@@ -81,11 +84,11 @@ loop-less c = search needs
 
 loop-again : tie.Need-loop-again Inv-loop μ-loop
 loop-again c =
-    let test = c .before .before .before .before .before .before .before in
+    let test = c .before .before .before .before .before .before .before .before .before in
     let go = test .before .ended .ensures (test .if2 .left) in
-    let at = c .before .before .before .before .before .before .before .before .before .before .before in
-    let run = c .before .before .before .before in
-    (omega arith, omega arith, omega arith, search needs, kept-join (at .loop .inv .4) (run .run .ensures .kept) (omega arith))
+    let at = c .before .before .before .before .before .before .before .before .before .before .before .before .before in
+    let run = c .before .before .before .before .before in
+    (omega arith, omega arith, omega arith, search needs, search needs, kept-join (at .loop .inv .5) (run .run .ensures .kept) (omega arith))
 
 answer-requires-2 : tie.Need-answer-requires-2 Inv-loop μ-loop
 answer-requires-2 c κs = search needs
@@ -99,7 +102,7 @@ same-length-2 c = search needs
 returns-3 : tie.Need-returns-3 Inv-loop μ-loop
 returns-3 c =
     let at = c .before .before .before .before .before in
-    (omega arith, kept-join (at .loop .inv .4) (c .before .before .answer2 .ensures .kept) (omega arith) .rest)
+    (omega arith, kept-join (at .loop .inv .5) (c .before .before .answer2 .ensures .kept) (omega arith) .rest)
 
 pub script-run-spec : {M : Type 1} → statement M
 script-run-spec =
@@ -119,6 +122,7 @@ script-run-spec =
     same-length
     returns-2
     slice-aggregate-run
+    slice-aggregate-run-2
     run-requires
     add-to
     operands-requires

@@ -101,6 +101,128 @@ fn the_store() {
     answers("0b 0000 01ff 0002 0b 01ff 0000 0002", "01 01");
 }
 
+/// Arch, echo 5, polling, Contention.
+const HEADER: &str = "03 00 05 01 00";
+/// Tmsi20 of 1.
+const TMSI: &str = "00 0000000000000001";
+/// The sample order of document 01.
+const SAMPLE: &str = "6140000021480504 000000000000";
+
+fn begin(header: &str, identity: &str, counts: &str, data: &str) -> String {
+    format!("00 {header} {identity} {counts} {data} 00 00 00000000000000000000")
+}
+fn next(header: &str, numbers: &str, data: &str) -> String {
+    format!("01 {header} 00 0000000000000000 00 00 00000000000000 {numbers} {data}")
+}
+#[test]
+fn frames() {
+    // one octet in 8 bits, as it is cut, and in the room's 55, as it is read
+    let cut = begin(HEADER, TMSI, "01 08", "41000000000000");
+    let read = begin(HEADER, TMSI, "01 37", "41000000000000");
+    answers(
+        &format!("0c {cut} 0c {read}"),
+        &format!("00 {SAMPLE} 00 {SAMPLE}"),
+    );
+    let octets = |length: &str| format!("0d {length} {SAMPLE} {}", "00".repeat(18));
+    answers(&octets("0e"), &format!("00 {read}"));
+    answers(&octets("0d"), "01");
+    answers(&octets("0f"), "01");
+    answers(&octets("00"), "01");
+    answers(&octets("21"), "ff");
+    // bits past the count and past the room's end
+    answers(
+        &format!("0c {}", begin(HEADER, TMSI, "01 09", "41000000000000")),
+        &format!("00 {SAMPLE}"),
+    );
+    answers(
+        &format!("0c {}", begin(HEADER, TMSI, "01 09", "41800000000000")),
+        "07",
+    );
+    answers(
+        &format!("0c {}", begin(HEADER, TMSI, "01 38", "41000000000000")),
+        "0d",
+    );
+    answers(
+        &format!("0c {}", begin(HEADER, TMSI, "01 ff", "41000000000000")),
+        "0d",
+    );
+    answers(
+        &format!(
+            "0c {}",
+            begin("07 00 80 01 00", TMSI, "01 08", "41000000000000")
+        ),
+        "03",
+    );
+    answers(
+        &format!(
+            "0c {}",
+            begin("03 00 80 01 00", TMSI, "01 08", "41000000000000")
+        ),
+        "0b",
+    );
+    answers(
+        &format!(
+            "0c {}",
+            begin("05 00 05 01 00", TMSI, "01 08", "41000000000000")
+        ),
+        "ff",
+    );
+    answers(
+        &format!(
+            "0c {}",
+            begin("03 10 05 01 00", TMSI, "01 08", "41000000000000")
+        ),
+        "ff",
+    );
+    answers(
+        &format!(
+            "0c {}",
+            begin("03 00 05 02 00", TMSI, "01 08", "41000000000000")
+        ),
+        "ff",
+    );
+    answers(
+        &format!(
+            "0c {}",
+            begin("03 00 05 01 02", TMSI, "01 08", "41000000000000")
+        ),
+        "ff",
+    );
+    // a Continue: its 79 bits, the low two bits of its type
+    let ones = "ffffffffffffffffffff";
+    let sent = next("04 0f 7f 00 01", "06 19", ones);
+    answers(&format!("0c {sent}"), "00 9da7f8e7 ffffffffffffffffff f8");
+    answers(
+        &format!("0c {}", next("04 0f 7f 00 01", "06 1a", ones)),
+        "0c",
+    );
+}
+#[test]
+fn cuts() {
+    let cut = |length: &str| format!("{HEADER} {TMSI} {length}");
+    let fill = "0e 00 ffffffffffffffff";
+    answers(&format!("0f {}", cut("0006")), "00 01");
+    answers(&format!("0f {}", cut("0007")), "00 02");
+    answers(&format!("0f {}", cut("00ff")), "00 1b");
+    answers(&format!("0f {}", cut("0100")), "01");
+    answers(&format!("0f {}", cut("0130")), "01");
+    answers(&format!("0f {}", cut("0131")), "ff");
+    answers("0e 25 0102030405060708 0e 26 0102030405060708", "00 ff");
+    answers(
+        &format!(
+            "{fill} 10 {} 0000 10 {} 0001 10 {} 0002",
+            cut("0007"),
+            cut("0007"),
+            cut("0007")
+        ),
+        &format!(
+            "00 00 {} 00 {} 0c",
+            begin(HEADER, TMSI, "07 37", "fffffffffffffe"),
+            next(HEADER, "00 00", "80000000000000000000")
+        ),
+    );
+}
+
 /// Runs in a room of this size and gives what was written.
 fn ends(script: &str, room: usize) -> Vec<u8> {
     let mut answers = vec![0x55; room];
@@ -114,7 +236,7 @@ fn ends_of_a_script() {
     assert_eq!(ends("", 1), [END]);
     assert_eq!(ends("", 0), []);
     assert_eq!(ends("00", 1), [END_UNKNOWN]);
-    assert_eq!(ends("0c", 1), [END_UNKNOWN]);
+    assert_eq!(ends("11", 1), [END_UNKNOWN]);
     assert_eq!(ends("07 0000", 1), [END_CUT]);
     // CHECK has a longest answer of 1, TAKE of 11 even where it refuses
     assert_eq!(ends("02 00 0000000000000001", 2), [0, END]);

@@ -27,10 +27,10 @@ pub fn main(seed: u64, count: u64) -> ExitCode {
 }
 
 /// A script, the room for its answers, and the octet that fills the room before.
-struct Case {
-    script: Vec<u8>,
-    room: usize,
-    filler: u8,
+pub struct Case {
+    pub script: Vec<u8>,
+    pub room: usize,
+    pub filler: u8,
 }
 impl Case {
     fn new(random: &mut Random) -> Self {
@@ -44,7 +44,7 @@ impl Case {
         }
     }
     /// The original's steps and answers, or what differs.
-    fn compare(&self) -> Result<(Vec<Step>, Answers), String> {
+    pub fn compare(&self) -> Result<(Vec<Step>, Answers), String> {
         let mut steps = Vec::new();
         let original =
             self.answers(|script, room| script::run_each(script, room, |step| steps.push(step)));
@@ -122,7 +122,7 @@ fn longest_answer() -> usize {
 
 /// What a side returned, and its buffer, the guards among it.
 #[derive(PartialEq)]
-struct Answers {
+pub struct Answers {
     buffer: Vec<u8>,
     length: usize,
 }
@@ -149,20 +149,32 @@ impl Answers {
 
 /// How many operations were answered by each number octet, and how many scripts ended by each end octet.
 #[derive(Default)]
-struct Tally {
-    scripts: u64,
-    operations: u64,
+pub struct Tally {
+    pub scripts: u64,
+    pub operations: u64,
     numbers: BTreeMap<(u8, u8), u64>,
     ends: BTreeMap<Option<u8>, u64>,
 }
 impl Tally {
-    fn add(&mut self, steps: &[Step], answers: &Answers) {
+    pub fn add(&mut self, steps: &[Step], answers: &Answers) {
         self.scripts += 1;
         self.operations += steps.len() as u64;
         *self.ends.entry(answers.end()).or_default() += 1;
         for step in steps {
             let key = (step.operation.op, answers.number(step));
             *self.numbers.entry(key).or_default() += 1;
+        }
+    }
+    /// Only the operations and number octets that were seen.
+    pub fn print_seen(&self) {
+        for operation in &OPERATIONS {
+            let rows = self.numbers.range((operation.op, 0)..=(operation.op, 255));
+            let total: u64 = rows.clone().map(|(_, count)| count).sum();
+            if total > 0 {
+                print!("{:#04x} {:10} {total:9}", operation.op, operation.name);
+                rows.for_each(|((_, number), count)| print!("  {number}: {count}"));
+                println!();
+            }
         }
     }
     fn print(&self) {

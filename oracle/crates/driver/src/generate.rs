@@ -2,14 +2,19 @@
 use crate::random::Random;
 use bts136::harness::{
     script::{
-        ACCEPT, ADDRESS, CHECK, COPY, DUMP, EQUAL, FIELD_BITS, FILL, HEADER_A, LAST_ADDRESS,
-        LAST_HEADER_A, OPERATIONS, PARTS, PUT, STORE_BITS, TAKE, operation,
+        ACCEPT, ADDRESS, CHECK, COPY, COUNT, DECODE, DECODE_OCTETS, DUMP, ENCODE, EQUAL,
+        FIELD_BITS, FILL, FRAME, HEADER_A, LAST_ADDRESS, LAST_HEADER_A, MESSAGE, MESSAGE_OCTETS,
+        OPERATIONS, PARTS, PUT, STORE_BITS, TAKE, operation,
     },
-    wire::{self, FRAME_OCTETS},
+    wire::{self, FRAME_OCTETS, HEADER_OCTETS, PARSED_OCTETS},
 };
 
 const FRAME_BITS: usize = 8 * FRAME_OCTETS;
 const EIGHTHS: u8 = 8;
+pub const MESSAGE_EIGHTHS: u8 = (MESSAGE_OCTETS / 8) as u8;
+/// The data of a Continue, and what a Begin's fields without identity leave of a frame.
+const CONTINUE_DATA: usize = 79;
+const BEGIN_ROOM: usize = 75;
 const HEADER_A_BITS: usize = 7;
 /// Header A and the type stand before an address.
 const BEFORE_ADDRESS: usize = 10;
@@ -48,8 +53,12 @@ pub fn operations(random: &mut Random, count: usize) -> Vec<u8> {
     let mut left = count;
     // A store without zeros, so that a DUMP shows which bits stay.
     if left > usize::from(EIGHTHS) && random.chance(70) {
-        fill_all(random, &mut script);
+        fill_all(random, FILL, EIGHTHS, &mut script);
         left -= usize::from(EIGHTHS);
+    }
+    if left > usize::from(MESSAGE_EIGHTHS) && random.chance(70) {
+        fill_all(random, MESSAGE, MESSAGE_EIGHTHS, &mut script);
+        left -= usize::from(MESSAGE_EIGHTHS);
     }
     while left > 0 {
         let op = 1 + random.below(OPERATIONS.len()) as u8;
@@ -62,9 +71,10 @@ pub fn operations(random: &mut Random, count: usize) -> Vec<u8> {
     }
     script
 }
-fn fill_all(random: &mut Random, script: &mut Vec<u8>) {
-    for eighth in 0..EIGHTHS {
-        script.extend_from_slice(&[FILL, eighth]);
+/// The whole store or the whole message.
+pub fn fill_all(random: &mut Random, op: u8, eighths: u8, script: &mut Vec<u8>) {
+    for eighth in 0..eighths {
+        script.extend_from_slice(&[op, eighth]);
         script.extend_from_slice(&random.octets::<8>());
     }
 }
@@ -80,9 +90,16 @@ pub fn append(random: &mut Random, op: u8, script: &mut Vec<u8>) {
         ADDRESS => address(random, script),
         TAKE => take(random, script),
         PUT => put(random, script),
-        FILL => fill(random, script),
+        FILL => fill(random, EIGHTHS, script),
         DUMP => {}
         COPY => copy(random, script),
+        ENCODE => script.extend_from_slice(&near_parsed(random)),
+        DECODE => decode(random, script),
+        MESSAGE => fill(random, MESSAGE_EIGHTHS, script),
+        COUNT => {
+            cut(random, script);
+        }
+        FRAME => cut_frame(random, script),
         _ => unreachable!("{} has no operands yet", row.name),
     }
     assert_eq!(script.len() - start, row.operands, "{}", row.name);
@@ -235,11 +252,11 @@ fn put(random: &mut Random, script: &mut Vec<u8>) {
     };
     script.extend_from_slice(&value.to_be_bytes());
 }
-fn fill(random: &mut Random, script: &mut Vec<u8>) {
+fn fill(random: &mut Random, eighths: u8, script: &mut Vec<u8>) {
     script.push(match random.below(10) {
-        0 => random.pick(&[8, 9, 0x80, 0xff]),
+        0 => random.pick(&[eighths, eighths + 1, 0x80, 0xff]),
         1 => random.octet(),
-        _ => random.octet() % EIGHTHS,
+        _ => random.octet() % eighths,
     });
     script.extend_from_slice(&match random.below(8) {
         0 => [0; 8],
@@ -275,6 +292,200 @@ fn store_offset(random: &mut Random, count: usize) -> [u8; 2] {
         _ => random.below(last + 1),
     };
     (offset as u16).to_be_bytes()
+}
+
+/// A header that names a call, and one in 20 that does not.
+fn header(random: &mut Random) -> [u8; HEADER_OCTETS] {
+    let mut header = good_header(random);
+    match random.below(20) {
+        0 => header[0] = 7,
+        1 => header[2] = random.pick(&[126, 127, 128, 129, 255]),
+        2 => header[2] = random.octet(),
+        3 => {
+            let place = random.pick(&[0, 1, 3, 4]);
+            header[place] = random.pick(&[0, 2, 5, 8, 16, 255]);
+        }
+        _ => {}
+    }
+    header
+}
+fn good_header(random: &mut Random) -> [u8; HEADER_OCTETS] {
+    [
+        random.pick(&[3, 4]),
+        random.octet() % 16,
+        random.octet() % 128,
+        random.octet() % 2,
+        random.octet() % 2,
+    ]
+}
+fn good_identity(random: &mut Random, kind: u8) -> [u8; 9] {
+    let last = (1 << wire::identity_width(kind)) - 1;
+    let value = match random.below(8) {
+        0 => random.pick(&[1, last - 1, last]),
+        1 => 1 + random.any_length() % last,
+        _ => 1 + random.next() % last,
+    };
+    identity_operand(kind, value)
+}
+/// How many data bits a Begin has room for; a type over 3 borrows another's.
+pub fn room(kind: u8) -> usize {
+    BEGIN_ROOM - wire::identity_width(kind % 4)
+}
+/// Zeros from this bit on.
+fn clear(octets: &mut [u8], from: usize) {
+    for place in from..8 * octets.len() {
+        octets[place / 8] &= !(0x80 >> (place % 8));
+    }
+}
+
+/// The operand of a frame that encodes, garbage where it is not read.
+pub fn good_parsed(random: &mut Random) -> [u8; PARSED_OCTETS] {
+    let (kind, octets) = (random.octet() % 4, random.octet());
+    let octets = random.pick(&[octets % 8, octets]);
+    let mut frame = good_begin(random, kind, octets);
+    frame[0] = random.octet() % 2;
+    frame
+}
+/// The operand of a Begin that encodes, of this type and octet count; its Continue's fields encode too.
+pub fn good_begin(random: &mut Random, kind: u8, message_octets: u8) -> [u8; PARSED_OCTETS] {
+    let mut frame = random.octets::<PARSED_OCTETS>();
+    frame[0] = 0;
+    frame[1..6].copy_from_slice(&good_header(random));
+    frame[6..15].copy_from_slice(&good_identity(random, kind));
+    frame[15] = message_octets;
+    frame[16] = random.below(room(kind) + 1) as u8;
+    let end = 8 * usize::from(message_octets);
+    if end < usize::from(frame[16]) {
+        clear(&mut frame[17..24], end);
+    }
+    frame[25] = random.octet() % 26;
+    frame
+}
+/// The operand of a frame, most of them near one that encodes.
+fn near_parsed(random: &mut Random) -> [u8; PARSED_OCTETS] {
+    let mut frame = good_parsed(random);
+    let room = room(frame[6]) as u8;
+    match random.below(16) {
+        0 | 1 => frame[1..6].copy_from_slice(&header(random)),
+        2 | 3 => frame[6..15].copy_from_slice(&identity(random)),
+        4 => frame[15] = random.octet(),
+        5 | 6 => frame[16] = random.pick(&[room - 1, room, room + 1, 55, 56, 57, 255]),
+        7 => frame[16] = random.octet(),
+        8 | 9 => frame[17..24].copy_from_slice(&random.octets::<7>()),
+        // The first and the last bit that is filler, and the first that is not read.
+        10 => {
+            let (end, bits) = (8 * usize::from(frame[15]), usize::from(frame[16]));
+            let place = random.pick(&[end, bits.saturating_sub(1), bits]);
+            if let Some(octet) = frame[17..24].get_mut(place / 8) {
+                *octet |= 0x80 >> (place % 8);
+            }
+        }
+        11 => frame[25] = random.pick(&[24, 25, 26, 27, 31, 32, 255]),
+        12 => frame[25] = random.octet(),
+        13 => frame[0] = random.pick(&[0, 1, 2, 128, 255]),
+        14 => frame = random.octets(),
+        _ => {}
+    }
+    frame
+}
+
+/// The original's octets of a frame that encodes.
+pub fn encoded(parsed: &[u8; PARSED_OCTETS]) -> [u8; FRAME_OCTETS] {
+    let frame = wire::frame(parsed).expect("a frame");
+    wire::pack_frame(&frame.encode().expect("a good frame"))
+}
+/// The operands of DECODE: the frame, and zeros after it.
+pub fn decode_operands(frame: &[u8; FRAME_OCTETS]) -> [u8; 1 + DECODE_OCTETS] {
+    let mut operands = [0; 1 + DECODE_OCTETS];
+    operands[0] = FRAME_OCTETS as u8;
+    operands[1..1 + FRAME_OCTETS].copy_from_slice(frame);
+    operands
+}
+fn decode(random: &mut Random, script: &mut Vec<u8>) {
+    let parsed = good_parsed(random);
+    let mut octets = encoded(&parsed);
+    match random.below(16) {
+        0..=4 => flip_a_bit(random, &mut octets),
+        5..=7 => octets = spoiled(random, &parsed),
+        8 => octets[random.below(3)] = random.octet(),
+        9 => octets[FRAME_OCTETS - 1] |= random.octet() & 7,
+        10 => octets = frame(random),
+        11 => octets = random.octets(),
+        _ => {}
+    }
+    if random.chance(80) {
+        octets[FRAME_OCTETS - 1] &= !7;
+    }
+    let mut operands = decode_operands(&octets);
+    match random.below(16) {
+        0 => operands[0] = random.octet() % (DECODE_OCTETS as u8 + 1),
+        1 => operands[0] = random.pick(&[0, 1, 13, 15, 16, 31, 32, 33, 34, 255]),
+        2 => operands[1 + FRAME_OCTETS..].copy_from_slice(&random.octets::<18>()),
+        _ => {}
+    }
+    script.extend_from_slice(&operands);
+}
+/// A good frame with another value in one of the fields that decode looks at.
+fn spoiled(random: &mut Random, parsed: &[u8; PARSED_OCTETS]) -> [u8; FRAME_OCTETS] {
+    let mut bits = wire::unpack_frame(&encoded(parsed));
+    let (begins, width) = (parsed[0] == 0, wire::identity_width(parsed[6]));
+    let echo = if begins { 15 + width } else { 14 };
+    let value = random.next();
+    match random.below(8) {
+        0 => set(&mut bits, 0, 7, value),
+        1 => set(&mut bits, 7, 3, value),
+        2 => set(&mut bits, 10, 5, value),
+        3 => set(&mut bits, echo + 7, 2, value),
+        4 if begins => set(&mut bits, 15, width, 0),
+        5 if begins => set(&mut bits, echo + 11, 8, value % 8),
+        _ => set(&mut bits, echo + 11, 5, 24 + value % 8),
+    }
+    packed(&bits)
+}
+
+/// A header, an identity and a length; how many frames these need, if they are cut.
+fn cut(random: &mut Random, script: &mut Vec<u8>) -> usize {
+    let kind = random.octet() % 4;
+    let header = if random.chance(85) {
+        good_header(random)
+    } else {
+        header(random)
+    };
+    let identity = if random.chance(85) {
+        good_identity(random, kind)
+    } else {
+        identity(random)
+    };
+    let length = match random.below(16) {
+        0..=4 => random.pick(&[0, 1, 3, 4, 5, 6, 7, 8, 16, 17, 18, 254, 255]),
+        5 => random.pick(&[256, 303, 304, 305, 65535]),
+        6 => usize::from(random.next() as u16),
+        7 => random.below(MESSAGE_OCTETS + 1),
+        8..=10 => random.below(40),
+        _ => random.below(256),
+    };
+    script.extend_from_slice(&header);
+    script.extend_from_slice(&identity);
+    script.extend_from_slice(&(length as u16).to_be_bytes());
+    frames(identity[0], length)
+}
+/// How many frames a message of this length needs.
+pub fn frames(kind: u8, length: usize) -> usize {
+    1 + (8 * length)
+        .saturating_sub(room(kind))
+        .div_ceil(CONTINUE_DATA)
+}
+fn cut_frame(random: &mut Random, script: &mut Vec<u8>) {
+    let count = cut(random, script);
+    let k = match random.below(12) {
+        0 | 1 => 0,
+        2 | 3 => count - 1,
+        4 => count,
+        5 => random.pick(&[count + 1, 26, 27, 255, 256, 65535]),
+        6 => usize::from(random.next() as u16),
+        _ => random.below(count),
+    };
+    script.extend_from_slice(&(k as u16).to_be_bytes());
 }
 
 #[cfg(test)]

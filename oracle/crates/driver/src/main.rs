@@ -1,5 +1,6 @@
 //! Runs the original and the port on the same inputs. The commands are in the README.
 mod compare;
+mod exhaust;
 mod generate;
 mod hex;
 mod make;
@@ -9,7 +10,7 @@ mod time;
 
 use std::{env, path::Path, process::ExitCode};
 
-const USAGE: &str = "usage: driver compare SEED COUNT | make FOLDER | time";
+const USAGE: &str = "usage: driver compare SEED COUNT | exhaust SEED | make FOLDER | time";
 
 fn main() -> ExitCode {
     let arguments: Vec<String> = env::args().skip(1).collect();
@@ -19,6 +20,7 @@ fn main() -> ExitCode {
             (Ok(seed), Ok(count)) => compare::main(seed, count),
             _ => usage(),
         },
+        ["exhaust", seed] => seed.parse().map_or_else(|_| usage(), exhaust::main),
         ["make", folder] => make::main(Path::new(folder)),
         ["time"] => time::main(),
         _ => usage(),

@@ -1,22 +1,26 @@
 //! The fixed script of the program `replay`, and the original's answers to it.
 use crate::{
-    generate::{append, identity_bounds, identity_operand, packed, set},
+    generate::{
+        MESSAGE_EIGHTHS, append, decode_operands, encoded, frames, identity_bounds,
+        identity_operand, packed, room, set,
+    },
     hex::hex,
     random::Random,
 };
 use bts136::harness::{
     script::{
-        self, ACCEPT, ADDRESS, CHECK, COPY, DUMP, END, EQUAL, FIELD_BITS, FILL, HEADER_A,
-        LAST_ADDRESS, LAST_HEADER_A, OPERATIONS, PARTS, PUT, STORE_BITS, TAKE,
+        self, ACCEPT, ADDRESS, CHECK, COPY, COUNT, DECODE, DUMP, ENCODE, END, EQUAL, FIELD_BITS,
+        FILL, FRAME, HEADER_A, LAST_ADDRESS, LAST_HEADER_A, MESSAGE, OPERATIONS, PARTS, PUT,
+        STORE_BITS, TAKE,
     },
-    wire::{self, FRAME_OCTETS},
+    wire::{self, FRAME_OCTETS, HEADER_OCTETS, PARSED_OCTETS},
 };
-use std::{fs, io, path::Path, process::ExitCode};
+use std::{collections::BTreeSet, fs, io, path::Path, process::ExitCode};
 
 const SEED: u64 = 136;
 /// What `replay` has room for, script and answers alike.
 const MOST_OCTETS: usize = 24_000;
-const RANDOM_OPERATIONS: usize = 800;
+const RANDOM_OPERATIONS: usize = 300;
 const LINE_OCTETS: usize = 32;
 
 pub fn main(folder: &Path) -> ExitCode {
@@ -59,6 +63,10 @@ fn fixed_script() -> Vec<u8> {
     script.takes();
     script.puts();
     script.copies();
+    script.begins();
+    script.continues();
+    script.decodes();
+    script.cuts();
     let mut random = Random(SEED);
     for _ in 0..RANDOM_OPERATIONS {
         let op = random.pick(&OPERATIONS.each_ref().map(|operation| operation.op));
@@ -214,6 +222,153 @@ impl Script {
             self.push(DUMP, &[]);
         }
     }
+    /// Begins of ones around the room of each type and around the last octet; each check of the header and of the identity.
+    fn begins(&mut self) {
+        for kind in 0..4 {
+            let (room, one) = (room(kind), identity_operand(kind, 1));
+            for (octets, bits) in [
+                (0, 0),
+                (0, 1),
+                (1, 8),
+                (1, 9),
+                (255, room - 1),
+                (255, room),
+                (255, room + 1),
+                (255, 255),
+            ] {
+                self.push(ENCODE, &[&begin(HEADER, one, octets, bits, 0xff)]);
+            }
+            for value in identity_bounds(kind) {
+                let identity = identity_operand(kind, value);
+                self.push(ENCODE, &[&begin(HEADER, identity, 1, 8, 0x41)]);
+            }
+        }
+        for (place, value) in [
+            (0, 4),
+            (0, 7),
+            (0, 5),
+            (1, 15),
+            (1, 16),
+            (3, 2),
+            (4, 1),
+            (4, 2),
+        ] {
+            let mut header = HEADER;
+            header[place] = value;
+            let parsed = begin(header, identity_operand(0, 1), 1, 8, 0x41);
+            self.push(ENCODE, &[&parsed]);
+        }
+    }
+    /// Echoes, types and numbers; a kind of no frame.
+    fn continues(&mut self) {
+        for echo in [127, 128, 255] {
+            self.push(ENCODE, &[&continuing(with_echo(echo), 1, 2)]);
+            let parsed = begin(with_echo(echo), identity_operand(0, 1), 1, 8, 0x41);
+            self.push(ENCODE, &[&parsed]);
+        }
+        for kind in [0, 3, 4, 255] {
+            self.push(ENCODE, &[&continuing(HEADER, kind, 0)]);
+        }
+        for number in [25, 26, 31, 255] {
+            self.push(ENCODE, &[&continuing(HEADER, 2, number)]);
+        }
+        let mut none = continuing(HEADER, 0, 0);
+        none[0] = 2;
+        self.push(ENCODE, &[&none]);
+    }
+    /// Document 01's sample, its lengths, and its single-bit flips up to its data; every number of a Continue; filler.
+    fn decodes(&mut self) {
+        let sample = encoded(&begin(HEADER, identity_operand(0, 1), 1, 8, 0x41));
+        for length in [14, 0, 13, 15, 32, 33, 255] {
+            let mut operands = decode_operands(&sample);
+            operands[0] = length;
+            self.push(DECODE, &[&operands]);
+        }
+        for place in (0..63).chain(107..112) {
+            let mut flipped = sample;
+            flipped[place / 8] ^= 0x80 >> (place % 8);
+            self.push(DECODE, &[&decode_operands(&flipped)]);
+        }
+        for number in [0, 24, 25, 26, 31] {
+            let mut bits = wire::unpack_frame(&encoded(&continuing(HEADER, 2, 0)));
+            set(&mut bits, 25, 5, number);
+            self.push(DECODE, &[&decode_operands(&packed(&bits))]);
+        }
+        for kind in 0..4 {
+            let full = begin(HEADER, identity_operand(kind, 1), 255, room(kind), 0xff);
+            for octets in [room(kind) / 8, room(kind) / 8 + 1, 255] {
+                let mut bits = wire::unpack_frame(&encoded(&full));
+                set(&mut bits, 109 - room(kind) - 8, 8, octets as u64);
+                self.push(DECODE, &[&decode_operands(&packed(&bits))]);
+            }
+        }
+    }
+    /// A message of ones: how many frames each length needs, the first, the next and the last, and what is past them.
+    fn cuts(&mut self) {
+        for eighth in 0..MESSAGE_EIGHTHS {
+            self.push(MESSAGE, &[&[eighth], &[0xff; 8]]);
+        }
+        self.push(MESSAGE, &[&[MESSAGE_EIGHTHS], &[0xff; 8]]);
+        for kind in 0..4 {
+            let identity = identity_operand(kind, 1);
+            for length in [0, 3, 4, 5, 6, 7, 17, 254, 255, 256, 304, 305] {
+                self.push(COUNT, &[&HEADER, &identity, &pair(length)]);
+                let count = frames(kind, length);
+                for k in BTreeSet::from([0, 1, count - 1, count, 65535]) {
+                    // Longer ones are refused alike.
+                    if length < 256 || k == 0 {
+                        self.push(FRAME, &[&HEADER, &identity, &pair(length), &pair(k)]);
+                    }
+                }
+            }
+        }
+        for (header, kind, value) in [
+            (with_echo(127), 2, 1),
+            (with_echo(128), 2, 1),
+            (with_echo(128), 0, 0),
+            ([7, 0, 128, 1, 0], 0, 0),
+            ([5, 0, 0, 0, 0], 0, 1),
+            (HEADER, 3, 0),
+            (HEADER, 0, 1 << 20),
+            (HEADER, 1, 1 << 32),
+        ] {
+            for length in [6, 256] {
+                let operands: [&[u8]; 3] = [&header, &identity_operand(kind, value), &pair(length)];
+                self.push(COUNT, &operands);
+                self.push(FRAME, &[&operands.concat(), &pair(0)]);
+            }
+        }
+    }
+}
+/// Arch, flags 0, echo 5, polling, Contention.
+const HEADER: [u8; HEADER_OCTETS] = [3, 0, 5, 1, 0];
+fn with_echo(echo: u8) -> [u8; HEADER_OCTETS] {
+    let mut header = HEADER;
+    header[2] = echo;
+    header
+}
+/// The operand of a Begin whose data is one octet again and again; ones stand where a Begin is not read.
+fn begin(
+    header: [u8; HEADER_OCTETS],
+    identity: [u8; 9],
+    octets: u8,
+    bits: usize,
+    data: u8,
+) -> [u8; PARSED_OCTETS] {
+    let mut frame = [0xff; PARSED_OCTETS];
+    frame[0] = 0;
+    frame[1..6].copy_from_slice(&header);
+    frame[6..15].copy_from_slice(&identity);
+    frame[15..17].copy_from_slice(&[octets, bits as u8]);
+    frame[17..24].fill(data);
+    frame
+}
+/// A Continue's, of ones, beside the fields of a Begin that would be refused.
+fn continuing(header: [u8; HEADER_OCTETS], kind: u8, number: u8) -> [u8; PARSED_OCTETS] {
+    let mut frame = begin(header, identity_operand(0, 0), 0, 255, 0xff);
+    frame[0] = 1;
+    frame[24..26].copy_from_slice(&[kind, number]);
+    frame
 }
 fn pair(value: usize) -> [u8; 2] {
     u16::try_from(value).expect("two octets").to_be_bytes()

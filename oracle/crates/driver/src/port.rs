@@ -30,6 +30,16 @@ mod raw {
             places_length: usize,
             rounds: u64,
         );
+        pub fn time_encode(frames: *const u8, length: usize, rounds: u64) -> u64;
+        pub fn time_decode(octets: *const u8, length: usize, rounds: u64) -> u64;
+        pub fn time_cut(
+            operands: *const u8,
+            operands_length: usize,
+            message: *const u8,
+            length: usize,
+            rounds: u64,
+            encode: bool,
+        ) -> u64;
     }
 }
 
@@ -82,5 +92,23 @@ pub fn time_copy(to: &mut [u8], from: &[u8], places: &[u8], rounds: u64) {
             places.len(),
             rounds,
         );
+    }
+}
+pub fn time_encode(frames: &[u8], rounds: u64) -> u64 {
+    unsafe { raw::time_encode(frames.as_ptr(), frames.len(), rounds) }
+}
+pub fn time_decode(octets: &[u8], rounds: u64) -> u64 {
+    unsafe { raw::time_decode(octets.as_ptr(), octets.len(), rounds) }
+}
+pub fn time_cut(operands: &[u8], message: &[u8], rounds: u64, encode: bool) -> u64 {
+    unsafe {
+        raw::time_cut(
+            operands.as_ptr(),
+            operands.len(),
+            message.as_ptr(),
+            message.len(),
+            rounds,
+            encode,
+        )
     }
 }

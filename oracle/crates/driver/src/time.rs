@@ -14,6 +14,10 @@ const PLACES: usize = 1000;
 /// Odd, so that equal values of two rounds do not cancel in an exclusive or.
 const ROUNDS: u64 = 5;
 const FRAMES: usize = 256;
+/// Frames for encode and decode, and rounds in which each octet of a frame is told.
+const ARQ_FRAMES: usize = 64;
+const ARQ_ROUNDS: u64 = 70;
+const MESSAGE_OCTETS: usize = 255;
 const SCRIPT_OPERATIONS: usize = 1000;
 /// More than any operations of that number answer.
 const ANSWER_OCTETS: usize = 1 << 17;
@@ -46,6 +50,10 @@ pub fn main() -> ExitCode {
         port::time_address,
     );
     copies(&mut clock, &mut random);
+    for (kind, label) in [(0, "Begin"), (1, "Continue")] {
+        codec(&mut clock, &mut random, kind, label);
+    }
+    cuts(&mut clock, &mut random);
     whole_script(&mut clock, &mut random);
     clock.run();
     ExitCode::SUCCESS
@@ -167,6 +175,84 @@ fn copies(clock: &mut Clock, random: &mut Random) {
         move || timing::copy(&mut to_bits, &from_bits, &places, ROUNDS),
         move || port::time_copy(&mut to, &from, &port_places, ROUNDS),
     );
+}
+
+/// Frames of one kind, of all identity types, that encode.
+fn codec(clock: &mut Clock, random: &mut Random, kind: u8, label: &str) {
+    let parsed: Vec<_> = (0..ARQ_FRAMES)
+        .map(|_| {
+            let mut parsed = generate::good_parsed(random);
+            parsed[0] = kind;
+            parsed
+        })
+        .collect();
+    let octets: Rc<[u8]> = parsed.iter().flat_map(generate::encoded).collect();
+    let parsed: Rc<[u8]> = parsed.concat().into();
+    let bits = unpack(&octets);
+    let sum = port::time_encode(&parsed, ARQ_ROUNDS);
+    assert_eq!(timing::encode(&parsed, ARQ_ROUNDS), sum);
+    assert_eq!(timing::encode_packing(&parsed, ARQ_ROUNDS), sum);
+    let sum = port::time_decode(&octets, ARQ_ROUNDS);
+    assert_eq!(timing::decode(&bits, ARQ_ROUNDS), sum);
+    assert_eq!(timing::decode_unpacking(&octets, ARQ_ROUNDS), sum);
+
+    let calls = ARQ_FRAMES * ARQ_ROUNDS as usize;
+    for (how, original) in [
+        ("into bools", timing::encode as ReadFrames<u8>),
+        ("packing of the 14 octets counted", timing::encode_packing),
+    ] {
+        let [frames, port_frames] = array::from_fn(|_| parsed.clone());
+        clock.add(
+            format!("encode {label}: ArqFrame::encode, {how}"),
+            calls,
+            move || original(&frames, ARQ_ROUNDS),
+            move || port::time_encode(&port_frames, ARQ_ROUNDS),
+        );
+    }
+    let [unpacked, first, second] = array::from_fn(|_| octets.clone());
+    clock.add(
+        format!("decode {label}: decode on ready-made bools"),
+        calls,
+        move || timing::decode(&bits, ARQ_ROUNDS),
+        move || port::time_decode(&first, ARQ_ROUNDS),
+    );
+    clock.add(
+        format!("decode {label}: decode, unpacking of the 14 octets counted"),
+        calls,
+        move || timing::decode_unpacking(&unpacked, ARQ_ROUNDS),
+        move || port::time_decode(&second, ARQ_ROUNDS),
+    );
+}
+
+type Cut = fn(&[u8], &[u8], u64) -> u64;
+
+/// A message of 255 octets to a Min34, 27 frames: one call is the whole message.
+fn cuts(clock: &mut Clock, random: &mut Random) {
+    let mut operands = vec![3, 0, 0, 1, 0];
+    operands.extend_from_slice(&generate::identity_operand(2, 0x1_2345_6789));
+    let message = random.octets::<MESSAGE_OCTETS>();
+    let what = format!("{MESSAGE_OCTETS} octets, 27 frames");
+    for (label, encode, original) in [
+        ("cut: fragment_message", false, timing::cut as Cut),
+        ("cut and encode, into bools", true, timing::cut_encode),
+        (
+            "cut and encode, packing of the 14 octets counted",
+            true,
+            timing::cut_encode_packing,
+        ),
+    ] {
+        assert_eq!(
+            original(&operands, &message, ARQ_ROUNDS),
+            port::time_cut(&operands, &message, ARQ_ROUNDS, encode)
+        );
+        let [operands, port_operands] = array::from_fn(|_| operands.clone());
+        clock.add(
+            format!("{label}, {what}"),
+            ARQ_ROUNDS as usize,
+            move || original(&operands, &message, ARQ_ROUNDS),
+            move || port::time_cut(&port_operands, &message, ARQ_ROUNDS, encode),
+        );
+    }
 }
 
 fn whole_script(clock: &mut Clock, random: &mut Random) {

@@ -1,11 +1,14 @@
 //! The protocol of the README, answered by the original code.
 use super::wire::{self, FRAME_OCTETS};
-use crate::link::{
-    rach::MobileIdentity,
-    spach::{
-        Channel, HeaderFlags, SpachError, SpachReceiver as Given,
-        arq::{ArqFrame, ArqHeader, ResponseMode},
+use crate::{
+    link::{
+        rach::MobileIdentity,
+        spach::{
+            Channel, HeaderFlags, SpachError, SpachReceiver as Given,
+            arq::{self, ArqFrame, ArqHeader, ResponseMode},
+        },
     },
+    phy::control::INFORMATION_BITS,
 };
 use std::ops::Range;
 
@@ -24,6 +27,11 @@ pub const FIELD_BITS: usize = 50;
 /// The last bit offsets at which a header A and the longest address fit a frame.
 pub const LAST_HEADER_A: usize = 105;
 pub const LAST_ADDRESS: usize = 57;
+/// The longest input of DECODE.
+pub const DECODE_OCTETS: usize = 32;
+pub const MESSAGE_OCTETS: usize = 304;
+/// Document 01's own: a bit of padding is set.
+const PADDING: Refusal = Refusal(15);
 
 pub const PARTS: u8 = 0x01;
 pub const CHECK: u8 = 0x02;
@@ -36,6 +44,11 @@ pub const PUT: u8 = 0x08;
 pub const FILL: u8 = 0x09;
 pub const DUMP: u8 = 0x0a;
 pub const COPY: u8 = 0x0b;
+pub const ENCODE: u8 = 0x0c;
+pub const DECODE: u8 = 0x0d;
+pub const MESSAGE: u8 = 0x0e;
+pub const COUNT: u8 = 0x0f;
+pub const FRAME: u8 = 0x10;
 
 /// A row of the README's table of operations.
 pub struct Operation {
@@ -52,7 +65,7 @@ pub struct Operation {
 
 /// In the order of their op octets, the first of which is 1.
 #[rustfmt::skip]
-pub static OPERATIONS: [Operation; 11] = [
+pub static OPERATIONS: [Operation; 16] = [
     row(PARTS,    "PARTS",     9, 11, &[NO_CALL],          parts),
     row(CHECK,    "CHECK",     9,  1, &[2, NO_CALL],       check),
     row(EQUAL,    "EQUAL",    18,  2, &[NO_CALL],          equal),
@@ -64,6 +77,11 @@ pub static OPERATIONS: [Operation; 11] = [
     row(FILL,     "FILL",      9,  1, &[NO_CALL],          fill),
     row(DUMP,     "DUMP",      0, 65, &[],                 dump),
     row(COPY,     "COPY",      6,  1, &[1],                copy),
+    row(ENCODE,   "ENCODE",   36, 15, &[2, 3, 7, 11, 12, 13, NO_CALL], encode),
+    row(DECODE,   "DECODE",   33, 37, &[1, 2, 3, 4, 5, 6, 7, 12, 15, NO_CALL], decode),
+    row(MESSAGE,  "MESSAGE",   9,  1, &[NO_CALL],          message),
+    row(COUNT,    "COUNT",    16,  2, &[1, 2, 3, 11, NO_CALL], count),
+    row(FRAME,    "FRAME",    18, 37, &[1, 2, 3, 11, 12, NO_CALL], frame),
 ];
 const fn row(
     op: u8,
@@ -103,6 +121,7 @@ pub fn run_each(script: &[u8], answers: &mut [u8], mut each: impl FnMut(Step)) -
     }
     let mut machine = Machine {
         store: [false; STORE_BITS],
+        message: [0; MESSAGE_OCTETS],
     };
     let (mut at, mut written) = (0, 0);
     let end = loop {
@@ -160,6 +179,7 @@ fn answer(operation: &Operation, machine: &mut Machine, operands: &[u8], room: &
 /// What a script runs on.
 struct Machine {
     store: [bool; STORE_BITS],
+    message: [u8; MESSAGE_OCTETS],
 }
 
 /// An operation that is being run.
@@ -201,6 +221,9 @@ impl Operands<'_> {
     fn identity(&mut self) -> Result<MobileIdentity, Refusal> {
         let (kind, value) = (self.octet(), self.value());
         wire::identity(kind, value).ok_or(Refusal(NO_CALL))
+    }
+    fn header(&mut self) -> Result<ArqHeader, Refusal> {
+        wire::header(self.octets()).ok_or(Refusal(NO_CALL))
     }
     fn frame(&mut self) -> [bool; 8 * FRAME_OCTETS] {
         wire::unpack_frame(&self.octets::<FRAME_OCTETS>())
@@ -353,5 +376,57 @@ fn copy(call: &mut Call<'_>) -> Answered {
         .get_mut(to..to + count)
         .ok_or(SpachError::Length)?;
     place.copy_from_slice(source);
+    Ok(())
+}
+
+fn encode(call: &mut Call<'_>) -> Answered {
+    let frame = wire::frame(&call.operands.octets()).ok_or(Refusal(NO_CALL))?;
+    call.values.octets(&wire::pack_frame(&frame.encode()?));
+    Ok(())
+}
+
+fn decode(call: &mut Call<'_>) -> Answered {
+    let length = usize::from(call.operands.octet());
+    call_if(length <= DECODE_OCTETS)?;
+    let octets = &call.operands.octets::<DECODE_OCTETS>()[..length];
+    let mut bits = vec![false; 8 * length];
+    wire::unpack(octets, &mut bits);
+    // The original takes a frame without its padding.
+    if length == FRAME_OCTETS && bits.drain(INFORMATION_BITS..).any(|bit| bit) {
+        return Err(PADDING);
+    }
+    call.values
+        .octets(&wire::frame_octets(&arq::decode(&bits)?));
+    Ok(())
+}
+
+fn message(call: &mut Call<'_>) -> Answered {
+    let start = 8 * usize::from(call.operands.octet());
+    call_if(start < MESSAGE_OCTETS)?;
+    call.machine.message[start..start + 8].copy_from_slice(&call.operands.octets::<8>());
+    Ok(())
+}
+
+/// The frames of a header, an identity and a length of the message.
+fn cut(call: &mut Call<'_>) -> Result<Vec<ArqFrame>, Refusal> {
+    let (header, identity) = (call.operands.header()?, call.operands.identity()?);
+    let message = call.machine.message.get(..call.operands.count());
+    let message = message.ok_or(Refusal(NO_CALL))?;
+    Ok(arq::fragment_message(header, identity, message)?)
+}
+
+fn count(call: &mut Call<'_>) -> Answered {
+    let count = cut(call)?.len();
+    call.values.small(count);
+    Ok(())
+}
+
+fn frame(call: &mut Call<'_>) -> Answered {
+    let frames = cut(call)?;
+    // Past the last: document 01's own use of this number.
+    let frame = frames
+        .get(call.operands.count())
+        .ok_or(SpachError::FrameNumber)?;
+    call.values.octets(&wire::frame_octets(frame));
     Ok(())
 }

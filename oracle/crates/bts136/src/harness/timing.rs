@@ -1,7 +1,13 @@
 //! The loops that `time` runs on the original, each of the shape of the port's exported one: the same places or frames,
 //! the same rounds. Bits that are ready made stand as bools, 112 for a frame.
-use super::wire::{self, FRAME_OCTETS};
-use crate::link::spach::{SpachError, SpachReceiver as Given};
+use super::wire::{self, FRAME_OCTETS, HEADER_OCTETS, PARSED_OCTETS};
+use crate::{
+    link::spach::{
+        SpachError, SpachReceiver as Given,
+        arq::{self, ArqFrame, ArqHeader},
+    },
+    phy::control::INFORMATION_BITS,
+};
 use std::hint::black_box;
 
 const HEADER_A: usize = 0;
@@ -95,4 +101,144 @@ pub fn copy(to: &mut [bool], from: &[bool], places: &[u8], rounds: u64) {
             black_box(&mut *to);
         }
     }
+}
+
+/// Every echo in turn, so that no round repeats another.
+fn echo(round: u64) -> u8 {
+    (round % 128) as u8
+}
+fn header_of(frame: &mut ArqFrame) -> &mut ArqHeader {
+    match frame {
+        ArqFrame::Begin { header, .. } | ArqFrame::Continue { header, .. } => header,
+    }
+}
+type Bits = [bool; INFORMATION_BITS];
+/// An octet of an encoded frame, of the bools themselves.
+fn octet_of_bools(bits: &Bits, round: u64) -> u8 {
+    wire::octet(bits, round as usize % FRAME_OCTETS)
+}
+/// The same, of all octets packed.
+fn octet_of_packed(bits: &Bits, round: u64) -> u8 {
+    black_box(wire::pack_frame(bits))[round as usize % FRAME_OCTETS]
+}
+/// What is told of a frame: the exclusive or of echo, octet count or number, and an octet of the data.
+fn told(frame: &ArqFrame, round: u64) -> u64 {
+    let (header, number, octet) = match frame {
+        ArqFrame::Begin {
+            header,
+            message_octets,
+            data,
+            ..
+        } => (
+            header,
+            message_octets,
+            wire::octet(data, round as usize % 7),
+        ),
+        ArqFrame::Continue {
+            header,
+            frame_number,
+            data,
+            ..
+        } => (header, frame_number, wire::octet(data, round as usize % 10)),
+    };
+    u64::from(header.partial_echo ^ number ^ octet)
+}
+fn told_or_refused<T>(answer: Result<T, SpachError>, told: impl FnOnce(T) -> u64) -> u64 {
+    match answer {
+        Ok(value) => told(value),
+        Err(error) => u64::from(wire::number(error)),
+    }
+}
+
+#[inline(never)]
+pub fn encode(frames: &[u8], rounds: u64) -> u64 {
+    encode_each(frames, rounds, octet_of_bools)
+}
+#[inline(never)]
+pub fn encode_packing(frames: &[u8], rounds: u64) -> u64 {
+    encode_each(frames, rounds, octet_of_packed)
+}
+fn encode_each(frames: &[u8], rounds: u64, octet: impl Fn(&Bits, u64) -> u8) -> u64 {
+    let (frames, _) = frames.as_chunks::<PARSED_OCTETS>();
+    let mut sum = 0u64;
+    for mut frame in frames.iter().filter_map(wire::frame) {
+        for round in 0..rounds {
+            header_of(&mut frame).partial_echo = echo(round);
+            let told = told_or_refused(frame.encode(), |bits| u64::from(octet(&bits, round)));
+            sum = sum.wrapping_add(told);
+        }
+    }
+    sum
+}
+
+#[inline(never)]
+pub fn decode(bits: &[bool], rounds: u64) -> u64 {
+    let frames = bits.chunks_exact(8 * FRAME_OCTETS);
+    decode_each(frames, rounds, |bits| {
+        arq::decode(&bits[..INFORMATION_BITS])
+    })
+}
+#[inline(never)]
+pub fn decode_unpacking(octets: &[u8], rounds: u64) -> u64 {
+    let frames = octets.chunks_exact(FRAME_OCTETS);
+    decode_each(frames, rounds, |octets| {
+        arq::decode(&wire::unpack_frame(octets)[..INFORMATION_BITS])
+    })
+}
+fn decode_each<F>(
+    frames: impl Iterator<Item = F> + Clone,
+    rounds: u64,
+    decode: impl Fn(F) -> Result<ArqFrame, SpachError>,
+) -> u64 {
+    let mut sum = 0u64;
+    for round in 0..rounds {
+        for frame in frames.clone() {
+            let told = told_or_refused(decode(frame), |frame| told(&frame, round));
+            sum = sum.wrapping_add(told);
+        }
+    }
+    sum
+}
+
+#[inline(never)]
+pub fn cut(operands: &[u8], message: &[u8], rounds: u64) -> u64 {
+    cut_each(operands, message, rounds, told)
+}
+#[inline(never)]
+pub fn cut_encode(operands: &[u8], message: &[u8], rounds: u64) -> u64 {
+    cut_each(operands, message, rounds, |frame, round| {
+        told_or_refused(frame.encode(), |bits| {
+            u64::from(octet_of_bools(&bits, round))
+        })
+    })
+}
+#[inline(never)]
+pub fn cut_encode_packing(operands: &[u8], message: &[u8], rounds: u64) -> u64 {
+    cut_each(operands, message, rounds, |frame, round| {
+        told_or_refused(frame.encode(), |bits| {
+            u64::from(octet_of_packed(&bits, round))
+        })
+    })
+}
+fn cut_each(
+    operands: &[u8],
+    message: &[u8],
+    rounds: u64,
+    each: impl Fn(&ArqFrame, u64) -> u64,
+) -> u64 {
+    let (header, identity) = operands.split_at(HEADER_OCTETS);
+    let mut header = wire::header(header.try_into().expect("its octets")).expect("a header");
+    let value = u64::from_be_bytes(identity[1..].try_into().expect("its octets"));
+    let identity = wire::identity(identity[0], value).expect("an identity");
+    let mut sum = 0u64;
+    for round in 0..rounds {
+        header.partial_echo = echo(round);
+        let frames = arq::fragment_message(header, identity, message);
+        let told = told_or_refused(frames, |frames| {
+            let each = frames.iter().map(|frame| each(frame, round));
+            each.fold(0, u64::wrapping_add)
+        });
+        sum = sum.wrapping_add(told);
+    }
+    sum
 }

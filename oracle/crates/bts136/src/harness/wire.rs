@@ -1,10 +1,22 @@
 //! The octets of the protocol as the original's types, and back.
-use crate::link::{
-    rach::MobileIdentity,
-    spach::{HeaderFlags, SpachError},
+use crate::{
+    link::{
+        rach::MobileIdentity,
+        spach::{
+            Channel, HeaderFlags, SpachError,
+            arq::{ArqFrame, ArqHeader, CONTINUE_DATA_BITS, ResponseMode},
+        },
+    },
+    phy::control::INFORMATION_BITS,
 };
 
+/// A frame on the air, its three bits of padding among them.
 pub const FRAME_OCTETS: usize = 14;
+/// The operands of a header and of a frame, and how an answer has a frame.
+pub const HEADER_OCTETS: usize = 5;
+pub const PARSED_OCTETS: usize = 36;
+const BEGIN_OCTETS: usize = 7;
+const CONTINUE_OCTETS: usize = 10;
 
 /// The bits of the octets, first bit at the top of the first octet. The lengths agree: 8 bits for each octet.
 pub fn unpack(octets: &[u8], bits: &mut [bool]) {
@@ -27,6 +39,133 @@ pub fn unpack_frame(octets: &[u8]) -> [bool; 8 * FRAME_OCTETS] {
     let mut bits = [false; 8 * FRAME_OCTETS];
     unpack(octets, &mut bits);
     bits
+}
+
+/// The bits of `encode` in octets, the padding zero.
+pub fn pack_frame(bits: &[bool; INFORMATION_BITS]) -> [u8; FRAME_OCTETS] {
+    let mut padded = [false; 8 * FRAME_OCTETS];
+    padded[..INFORMATION_BITS].copy_from_slice(bits);
+    let mut octets = [0; FRAME_OCTETS];
+    pack(&padded, &mut octets);
+    octets
+}
+/// Bits in octets, zeros after them.
+fn packed<const OCTETS: usize>(bits: &[bool]) -> [u8; OCTETS] {
+    std::array::from_fn(|index| octet(bits, index))
+}
+/// One octet of some bits, zeros after them.
+pub fn octet(bits: &[bool], index: usize) -> u8 {
+    (8 * index..8 * index + 8).fold(0, |octet, place| {
+        octet << 1 | u8::from(bits.get(place).is_some_and(|bit| *bit))
+    })
+}
+
+/// `None` if the octets name no header.
+pub fn header(octets: [u8; HEADER_OCTETS]) -> Option<ArqHeader> {
+    let [usage, flags, partial_echo, polling, response_mode] = octets;
+    Some(ArqHeader {
+        channel: match usage {
+            3 => Channel::Arch,
+            4 => Channel::Smsch,
+            7 => Channel::Pch,
+            _ => return None,
+        },
+        flags: header_flags(flags)?,
+        partial_echo,
+        polling: flag(polling)?,
+        response_mode: match flag(response_mode)? {
+            false => ResponseMode::Contention,
+            true => ResponseMode::Reservation,
+        },
+    })
+}
+fn flag(octet: u8) -> Option<bool> {
+    (octet < 2).then_some(octet == 1)
+}
+fn header_flags(octet: u8) -> Option<HeaderFlags> {
+    (octet < 16).then_some(HeaderFlags {
+        pch_continuation: octet & 8 != 0,
+        bcch_change: octet & 4 != 0,
+        paging_frame_modifier: octet & 2 != 0,
+        reservation_response: octet & 1 != 0,
+    })
+}
+fn header_octets(header: &ArqHeader) -> [u8; HEADER_OCTETS] {
+    [
+        header.channel as u8,
+        flags(header.flags),
+        header.partial_echo,
+        u8::from(header.polling),
+        u8::from(header.response_mode == ResponseMode::Reservation),
+    ]
+}
+
+/// `None` if the octets name no frame; the fields of the other kind must name one too.
+pub fn frame(octets: &[u8; PARSED_OCTETS]) -> Option<ArqFrame> {
+    let header = header(*octets[1..].first_chunk()?)?;
+    let identity = identity(octets[6], u64::from_be_bytes(*octets[7..].first_chunk()?))?;
+    match octets[0] {
+        0 => {
+            let mut data = unpacked(&octets[17..17 + BEGIN_OCTETS]);
+            data.resize(usize::from(octets[16]), false);
+            Some(ArqFrame::Begin {
+                header,
+                identity,
+                message_octets: octets[15],
+                data,
+            })
+        }
+        1 => Some(ArqFrame::Continue {
+            header,
+            identity_type: octets[24],
+            frame_number: octets[25],
+            data: unpacked(&octets[26..])[..CONTINUE_DATA_BITS]
+                .try_into()
+                .expect("79 of 80 bits"),
+        }),
+        _ => None,
+    }
+}
+fn unpacked(octets: &[u8]) -> Vec<bool> {
+    let mut bits = vec![false; 8 * octets.len()];
+    unpack(octets, &mut bits);
+    bits
+}
+/// A frame as an answer has it: the fields of the other kind and unread bits are zero.
+pub fn frame_octets(frame: &ArqFrame) -> [u8; PARSED_OCTETS] {
+    let mut octets = [0; PARSED_OCTETS];
+    let (kind, header) = match frame {
+        ArqFrame::Begin { header, .. } => (0, header),
+        ArqFrame::Continue { header, .. } => (1, header),
+    };
+    octets[0] = kind;
+    octets[1..6].copy_from_slice(&header_octets(header));
+    match frame {
+        ArqFrame::Begin {
+            identity,
+            message_octets,
+            data,
+            ..
+        } => {
+            let (kind, _, value) = identity.parts();
+            octets[6] = kind;
+            octets[7..15].copy_from_slice(&value.to_be_bytes());
+            octets[15] = *message_octets;
+            octets[16] = u8::try_from(data.len()).expect("the data of a frame");
+            octets[17..24].copy_from_slice(&packed::<BEGIN_OCTETS>(data));
+        }
+        ArqFrame::Continue {
+            identity_type,
+            frame_number,
+            data,
+            ..
+        } => {
+            octets[24] = *identity_type;
+            octets[25] = *frame_number;
+            octets[26..].copy_from_slice(&packed::<CONTINUE_OCTETS>(data));
+        }
+    }
+    octets
 }
 
 /// `None` if the Rust type cannot hold the pair.

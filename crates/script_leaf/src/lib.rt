@@ -1,0 +1,3 @@
+// The operations on identities, header A and address.
+pub mod headers;
+pub mod identities;
