@@ -2,10 +2,10 @@
 -- The frames are the Rust's answers to the same messages (`oracle`, FRAME and ENCODE): every channel, flag and mode, and the
 -- top and low bits of each identity, are told apart in them. Assumes nothing.
 use mathlib.Core.Bool.{Bool, true, false, _&&_}
-use mathlib.Core.List.{List, [], _∷_, _++_}
+use mathlib.Core.List.{List, [], _∷_}
 use Prim.Native.Nat.{ℕ, _+_, _-_, _^_}
 use lib.Dec.{T, eqb}
-use lib.ListN.{length, replicate}
+use lib.ListN.{replicate}
 use Rattle.field.specs.Bits.{bit, bits, value, bitsOf, octets, field}
 use Rattle.field.specs.Layout.{layout, upTo, anySet}
 use Rattle.rach.specs.Identity.{typeOf, valueOf, identityOf, inRange, encodable}

@@ -1,22 +1,20 @@
 -- The parts of a frame, written one after the other over zeros, are the frame. Assumes nothing.
-use mathlib.Core.Path.{_≡_, refl, sym, ap, ap₂, _∙_}
+use mathlib.Core.Path.{_≡_, refl, sym, ap, _∙_}
 use mathlib.Core.Bool.{Bool, true, false}
 use mathlib.Core.List.{List, [], _∷_, _++_, append-nil}
 use Prim.Native.Nat.{ℕ, zero, suc, _+_, _-_, _*_, _%_, _^_, _≤_, _<_}
 use native.Mathlib.Nat.{mod-eq-of-lt}
 use native.Mathlib.Omega.{arith}
-use lib.ListN.{length, take, replicate, length-append, length-take, replicate-append-replicate}
-use lib.Seq.{length-take-le}
+use lib.ListN.{length, replicate, length-append, length-take, replicate-append-replicate}
 use Rattle.field.specs.Bits.{bit, bits, value, bitsOf, octets, put, splice}
 use Rattle.field.specs.Layout.{layout, upTo, zeros}
-use Rattle.field.proofs.Laws.{length-bitsOf}
 use Rattle.field.proofs.Layouts.{total, length-layout, layout-append, value-layout, put-run}
 use Rattle.field.proofs.Put.{put-splice, splice-next, splice-after}
 use Rattle.field.proofs.Cuts.{splice-zeros}
 use Rattle.rach.specs.Identity.{typeOf, valueOf, widthOf, partsOf}
 use Rattle.rach.specs.declared.IdentityParts.{IdentityParts}
 use Rattle.rach.specs.declared.MobileIdentity.{MobileIdentity}
-use Rattle.rach.proofs.Laws.{width-least, width-most}
+use Rattle.rach.proofs.Laws.{width-most}
 use Rattle.spach.specs.declared.Channel.{Channel}
 use Rattle.spach.specs.declared.Channel.the-variants.{Arch, Smsch, Pch}
 use Rattle.spach.specs.declared.HeaderFlags.{HeaderFlags}

@@ -1,5 +1,5 @@
 -- 01, *Cut*: over 255 octets 1; then 3, 11, 2 as encode; k not below the count 12. Assumes nothing.
-use mathlib.Core.Bool.{Bool, cond, not}
+use mathlib.Core.Bool.{not}
 use mathlib.Core.List.{List}
 use Prim.Native.Nat.{ℕ, zero, suc, _+_, _-_, _*_, _/_, min}
 use lib.Dec.{ltb}

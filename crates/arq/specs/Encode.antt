@@ -1,7 +1,7 @@
 -- 01, *Encode*: Pch 3; echo over 127 11; Begin identity 2; Begin bit count over its room 13; set bit past 8 times the
 -- octet count 7; Continue number over 25 12. Assumes nothing.
-use mathlib.Core.Bool.{Bool, not}
-use Prim.Native.Nat.{ℕ, _*_}
+use mathlib.Core.Bool.{not}
+use Prim.Native.Nat.{_*_}
 use lib.Dec.{eqb, ltb}
 use lib.ListN.{drop}
 use Rattle.field.specs.Layout.{anySet}

@@ -1,5 +1,5 @@
 -- 01, module 3: the frames Begin and Continue, laid out bit by bit. Assumes nothing.
-use mathlib.Core.Bool.{Bool, true, false}
+use mathlib.Core.Bool.{Bool, false}
 use mathlib.Core.List.{List, [], _∷_, _++_}
 use Prim.Native.Nat.{ℕ, _-_}
 use lib.ListN.{take, replicate}

@@ -30,7 +30,8 @@ fn check_cut(header: ArqHeader, identity: MobileIdentity, message: &[u8]) -> Ver
     spach::check_identity(identity)
 }
 
-fn least(a: usize, b: usize) -> usize
+// The lesser of two counts.
+pub fn least(a: usize, b: usize) -> usize
     ensures { λ r. ⌜ r ≡ min a b ⌝ }
 {
     if a < b { a } else { b }

@@ -7,7 +7,7 @@ use spach::Channel;
 use spach::HeaderFlags;
 ghost use mathlib.Core.Path.{_≡_};
 ghost use mathlib.Core.List.{[], _∷_, _++_};
-ghost use Prim.Native.Nat.{_+_, _*_, _^_, _≤_, _<_};
+ghost use Prim.Native.Nat.{_+_, _*_, _≤_, _<_};
 ghost use lib.ListN.{take};
 ghost use Rattle.field.specs.Bits.{bit, value, bitsOf, put, splice, Packs, Run};
 ghost use Rattle.field.specs.Layout.{layout};

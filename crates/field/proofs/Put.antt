@@ -1,16 +1,16 @@
 -- Fields put into bits: one after another, into an octet, into a part. And what a run of octets with a field put into it is as a number.
 -- Assumes nothing.
-use mathlib.Core.Path.{_≡_, refl, sym, ap, ap₂, _∙_, subst}
+use mathlib.Core.Path.{_≡_, sym, ap, ap₂, _∙_}
 use mathlib.Core.Bool.{Bool}
 use mathlib.Core.List.{List, [], _∷_, _++_, append-nil, append-assoc}
 use Prim.Native.Nat.{min, ℕ, zero, suc, _+_, _-_, _*_, _/_, _%_, _^_, _≤_, _<_}
-use native.Mathlib.Nat.{zero-add, zero-min, min-zero, suc-min-suc, add-comm, add-zero, add-assoc, add-mul, mul-assoc, div-one, mod-eq-of-lt, mod-lt, lt-of-lt-of-le, lt-of-le-of-lt, div-mul-le-self}
+use native.Mathlib.Nat.{zero-add, zero-min, min-zero, suc-min-suc, add-zero, add-assoc, mod-eq-of-lt, mod-lt, lt-of-le-of-lt}
 use native.Mathlib.Omega.{arith}
 use lib.Arith.{digits-lt}
 use lib.Pow.{pow-pos, pow-add, shr-shr, shr-lt, shl-exact, high, low, split}
-use lib.Bits.{bitAnd, bitOr, or-shifted, and-mask}
+use lib.Bits.{bitAnd, and-mask}
 use lib.ListN.{length, take, drop, set, length-append, length-take, length-drop, take-append-drop}
-use lib.Seq.{take-nil, length-take-le, take-at, drop-at, drop-append-add, drop-append-le, drop-drop, set-split, take-add, take-take}
+use lib.Seq.{take-nil, take-at, drop-append-add, drop-append-le, drop-drop, set-split, take-add, take-take}
 use Rattle.field.specs.Bits.{bits, value, bitsOf, field, put, splice, window}
 use Rattle.field.proofs.Laws.{length-bits, length-field, length-put, value-lt, value-append, value-bits, bits-append, bits-value, bits-mod, bitsOf-append, bitsOf-take, bitsOf-drop, length-bitsOf}
 use Rattle.field.proofs.Window.{Holds, window-bits, one-shl, length-window}

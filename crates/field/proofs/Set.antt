@@ -8,7 +8,7 @@ use native.Mathlib.Omega.{arith}
 use lib.Pow.{pow-pos}
 use lib.ListN.{length, take, drop, drop-of-length-le}
 use lib.Seq.{take-add, take-nil, drop-drop}
-use Rattle.field.specs.Bits.{bit, value, field}
+use Rattle.field.specs.Bits.{value, field}
 use Rattle.field.specs.Layout.{anySet, zeros}
 
 -- of two runs of bits, one has a set bit

@@ -1,13 +1,13 @@
 -- A run of octets as one number, and what shifts, masks and `|` do to such numbers. Assumes nothing.
-use mathlib.Core.Path.{_≡_, refl, sym, ap, ap₂, _∙_, subst}
+use mathlib.Core.Path.{_≡_, sym, ap, ap₂, _∙_}
 use mathlib.Core.Bool.{Bool}
 use mathlib.Core.List.{List, [], _∷_, _++_, append-nil}
-use Prim.Native.Nat.{min, ℕ, zero, suc, _+_, _-_, _*_, _/_, _%_, _^_, _≤_, _<_}
+use Prim.Native.Nat.{min, ℕ, suc, _+_, _-_, _*_, _/_, _%_, _^_, _≤_, _<_}
 use native.Mathlib.Nat.{one-mul, mod-eq-of-lt, lt-of-lt-of-le}
 use native.Mathlib.Omega.{arith}
 use lib.Pow.{pow-lt, pow-pos, pow-mono, shl-exact}
 use lib.Bits.{bitAnd, bitOr, or-shifted, and-mask}
-use lib.ListN.{length, take, drop, getD, length-append, length-take, length-drop, take-append-drop}
+use lib.ListN.{length, take, drop, getD, length-take, length-drop, take-append-drop}
 use lib.Seq.{drop-drop, take-add, take-suc, getD-drop}
 use native.Mathlib.Numerals.{add-one}
 use Rattle.field.specs.Bits.{bits, value, bitsOf, field, window, Placed}

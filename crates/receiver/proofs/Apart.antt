@@ -1,5 +1,5 @@
 -- The readings of the receiver's answers tell any two answers apart. Assumes nothing.
-use mathlib.Core.Path.{_≡_, refl, sym, ap, ap₂, _∙_}
+use mathlib.Core.Path.{_≡_, refl, ap, ap₂}
 use mathlib.Core.List.{List}
 use Prim.Native.Nat.{ℕ}
 use Rattle.spach.specs.declared.Verdict.{Verdict}

@@ -1,20 +1,20 @@
 -- The message is put together from the Begin's bits and the slots', one run after the other. Assumes nothing.
 use mathlib.Core.Path.{_≡_, refl, sym, ap, ap₂, _∙_}
 use mathlib.Core.Bool.{Bool}
-use mathlib.Core.List.{List, [], _∷_, _++_, append-nil, append-assoc}
-use Prim.Native.Nat.{ℕ, zero, suc, _+_, _-_, _*_, _/_, _≤_, _<_, min}
+use mathlib.Core.List.{List, _∷_, _++_, append-nil, append-assoc}
+use Prim.Native.Nat.{ℕ, zero, suc, _+_, _-_, _*_, _≤_, _<_, min}
 use native.Mathlib.Nat.{add-zero, add-suc, suc-add}
 use native.Mathlib.Numerals.{add-one}
 use native.Mathlib.Omega.{arith}
 use lib.ListN.{length, take, drop, length-append, length-take, length-drop}
-use lib.Seq.{take-take, take-append-add, take-all, take-at, length-take-le, take-append-le}
+use lib.Seq.{take-take, take-append-add, take-all, take-at, length-take-le}
 use Rattle.field.specs.Bits.{value, bitsOf, octets, splice}
 use Rattle.field.specs.Layout.{zeros}
 use Rattle.field.proofs.Laws.{bitsOf-take, bitsOf-drop, length-bitsOf}
 use Rattle.field.proofs.Put.{splice-after}
 use Rattle.field.proofs.Set.{drop-take}
-use Rattle.rach.specs.Identity.{typeOf, widthOf}
-use Rattle.rach.proofs.Laws.{width-least, width-most}
+use Rattle.rach.specs.Identity.{typeOf}
+use Rattle.rach.proofs.Laws.{width-least}
 use Rattle.arq.specs.Frame.{room}
 use Rattle.receiver.specs.declared.ArqReassembler.{ArqReassembler}
 use Rattle.receiver.specs.Receiver.{needed, startOf, slotAt, gathered, assembled}

@@ -19,7 +19,6 @@ use Rattle.arq.specs.Frame.{room, beginData, continueData}
 use Rattle.arq.specs.Decode.{decodeOf}
 use Rattle.arq.specs.Cut.{countOf, frameOf}
 use Rattle.receiver.specs.declared.ArqReassembler.{ArqReassembler}
-use Rattle.receiver.specs.declared.ArqStatus.{ArqStatus}
 use Rattle.receiver.specs.declared.StatusAnswer.{StatusAnswer}
 use Rattle.receiver.specs.declared.StatusAnswer.the-variants.{Status}
 use Rattle.receiver.specs.declared.Delivery.the-variants.{Nothing, Message}

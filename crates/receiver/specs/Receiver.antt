@@ -1,5 +1,5 @@
 -- 01, module 4: ArqReassembler. Its state, and what each call answers and leaves. Assumes nothing.
-use mathlib.Core.Bool.{Bool, true, false, cond, not, _&&_, _||_}
+use mathlib.Core.Bool.{Bool, true, false, cond, not, _&&_}
 use mathlib.Core.List.{List, [], _∷_, _++_}
 use Prim.Native.Nat.{ℕ, zero, suc, _+_, _-_, _*_, min}
 use lib.Dec.{eqb, ltb}
@@ -15,7 +15,7 @@ use Rattle.spach.specs.declared.Channel.the-variants.{Arch}
 use Rattle.spach.specs.Refusal.{Outcome, gives, refuses, refuse, numberOf, verdictOf}
 use Rattle.spach.specs.Header.{usageOf}
 use Rattle.arq.specs.declared.ArqFrame.{ArqFrame}
-use Rattle.arq.specs.Frame.{room, beginData, continueData}
+use Rattle.arq.specs.Frame.{room, continueData}
 use Rattle.arq.specs.Encode.{byKind}
 use Rattle.arq.specs.Decode.{decodeOf}
 use Rattle.arq.specs.Cut.{continues}

@@ -10,12 +10,6 @@ ghost use Rattle.field.specs.Bits.{bitsOf, splice, Packs};
 ghost use Rattle.field.specs.Layout.{zeros};
 ghost use Rattle.receiver.specs.Receiver.{assembled, messageOf, needed, startOf};
 
-fn least(a: usize, b: usize) -> usize
-    ensures { λ r. ⌜ r ≡ min a b ⌝ }
-{
-    if a < b { a } else { b }
-}
-
 // Where Continue k's data start in the message.
 pub fn start_of(s: ArqReassembler, k: usize) -> usize
     requires { ⌜ k ≤ 26 ⌝ }
@@ -23,7 +17,7 @@ pub fn start_of(s: ArqReassembler, k: usize) -> usize
 {
     let identity = s.identity;
     let t = s.transaction;
-    least(
+    arq::cut::least(
         8 * (t.message_octets as usize),
         arq::check::room_of(identity),
     )
@@ -50,7 +44,7 @@ fn put_part(m: &mut [u8], s: ArqReassembler, k: usize)
     let t = s.transaction;
     let slots = s.slots;
     let start = start_of(s, k);
-    let n = least(79, 8 * (t.message_octets as usize) - start);
+    let n = arq::cut::least(79, 8 * (t.message_octets as usize) - start);
     field::copy_bits(m, start, &slots, 80 * k, n);
 }
 

@@ -21,7 +21,7 @@ ghost use Rattle.field.specs.Layout.{anySet};
 ghost use Rattle.spach.specs.Refusal.{numberOf, gives};
 ghost use Rattle.arq.specs.Frame.{continueData};
 ghost use Rattle.receiver.specs.Map.{bitOf};
-ghost use Rattle.receiver.specs.Receiver.{Out, refusal, ignored, finish, ours, needed, startOf, slotAt, sameOctets, pushContinue, pushFrame, pushed};
+ghost use Rattle.receiver.specs.Receiver.{refusal, ignored, finish, ours, needed, startOf, slotAt, sameOctets, pushContinue, pushFrame, pushed};
 
 // A refusal changes nothing.
 pub fn refused(s: ArqReassembler, error: SpachError) -> Pushed

@@ -3,12 +3,10 @@ use mathlib.Core.Path.{_≡_, refl, sym, ap, _∙_}
 use mathlib.Core.Bool.{cond}
 use Prim.Native.Nat.{ℕ}
 use lib.Dec.{eqb}
-use Rattle.rach.specs.declared.MobileIdentity.{MobileIdentity}
 use Rattle.spach.specs.declared.SpachError.{SpachError}
 use Rattle.spach.specs.declared.SpachError.the-variants.{Length, Identity, UnsupportedUsage, UnsupportedFrame, Encrypted, Reserved, Filler, PartialEcho, FrameNumber, Payload, DuplicateConflict, Padding, Room}
 use Rattle.spach.specs.declared.Channel.{Channel}
 use Rattle.spach.specs.declared.Channel.the-variants.{Arch, Smsch, Pch}
-use Rattle.spach.specs.declared.HeaderA.{HeaderA}
 use Rattle.spach.specs.declared.Address.{Address}
 use Rattle.spach.specs.declared.Verdict.{Verdict}
 use Rattle.spach.specs.declared.Verdict.the-variants as verdicts

@@ -1,5 +1,5 @@
 -- Laws of refusals, header A and the address: each way out of a reader, and which answer it is. Assumes nothing.
-use mathlib.Core.Path.{_≡_, refl, sym, ap, _∙_}
+use mathlib.Core.Path.{_≡_, sym, ap, _∙_}
 use mathlib.Core.Bool.{Bool, true, false, cond, not}
 use mathlib.Core.List.{List}
 use Prim.Native.Nat.{ℕ, _+_, _-_, _/_, _%_, _^_, _≤_}
@@ -14,7 +14,7 @@ use Rattle.rach.specs.Identity.{widthOf, identityOf}
 use Rattle.rach.specs.declared.MobileIdentity.{MobileIdentity}
 use Rattle.spach.specs.declared.Channel.{Channel}
 use Rattle.spach.specs.declared.Channel.the-variants.{Arch, Smsch, Pch}
-use Rattle.spach.specs.Refusal.{Outcome, gives, refuses}
+use Rattle.spach.specs.Refusal.{gives, refuses}
 use Rattle.spach.specs.Header.{channelOf, headerAAt, identityAt, addressAt}
 
 -- the fields of a run of w bits at offset o that was taken as one number x

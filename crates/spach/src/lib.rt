@@ -1,7 +1,7 @@
 // What every SPACH frame has: refusals, channel and flags, header A and the address, and the cursor that reads them.
 use rach::MobileIdentity;
 ghost use mathlib.Core.Path.{_≡_};
-ghost use Prim.Native.Nat.{_+_, _*_, _^_, _≤_, _<_};
+ghost use Prim.Native.Nat.{_+_, _^_, _<_};
 ghost use Rattle.field.specs.Bits.{bitsOf, field, Placed, Run};
 ghost use Rattle.spach.specs.Refusal.{numberOf, verdictOf};
 ghost use Rattle.spach.specs.Identity.{identityAnswer, checkIdentity, acceptIdentity};

@@ -1,10 +1,10 @@
 -- `field::copy_bits` meets its contract. The invariant: the first k bits are copied. Assumes nothing.
 use mathlib.Core.Path.{_≡_, refl, sym, ap, ap₂, _∙_}
-use Prim.Native.Nat.{_≤_, _<_, _-_, _+_}
+use Prim.Native.Nat.{_≤_, _-_, _+_}
 use native.Mathlib.Omega.{arith}
 use borrow.Author.Needs.{needs}
 use lib.ListN.{length, take, drop}
-use Rattle.field.specs.Bits.{Octets, bitsOf, put, field, splice}
+use Rattle.field.specs.Bits.{Octets, bitsOf, put, splice}
 use Rattle.field.proofs.Laws.{length-bitsOf, from-bits}
 use Rattle.field.proofs.Put.{splice-nil, copy-step}
 use Rattle.field.proofs.copy_bits.Statement.{statement}

@@ -1,5 +1,5 @@
 -- `field::put_octets` meets its contract. The invariant: the octets passed hold the high bits of x. Assumes nothing.
-use mathlib.Core.Path.{_≡_, refl, sym, ap, _∙_}
+use mathlib.Core.Path.{_≡_, refl, sym, _∙_}
 use mathlib.Core.List.{List}
 use Prim.Native.Nat.{ℕ, _≤_, _-_, _*_, _/_, _^_}
 use native.Mathlib.Omega.{arith}

@@ -1,6 +1,5 @@
 -- `field::write_field` meets its contract. Assumes nothing.
 use mathlib.Core.Path.{_≡_, _∙_}
-use native.Mathlib.Omega.{arith}
 use borrow.Author.Needs.{needs}
 use Rattle.field.specs.Bits.{bitsOf, put}
 use Rattle.field.proofs.Laws.{from-bits}

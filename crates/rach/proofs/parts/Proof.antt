@@ -1,5 +1,5 @@
 -- `rach::parts` meets its contract: by cases on the identity. Assumes nothing.
-use mathlib.Core.Path.{_≡_, sym, ap}
+use mathlib.Core.Path.{sym, ap}
 use borrow.Author.Needs.{needs}
 use Rattle.rach.specs.Identity.{partsOf}
 use Rattle.rach.proofs.parts.Statement.{statement}

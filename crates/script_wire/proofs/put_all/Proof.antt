@@ -2,7 +2,7 @@
 use mathlib.Core.Path.{_≡_, refl}
 use Prim.Native.Nat.{_+_, _-_, _≤_}
 use native.Mathlib.Omega.{arith}
-use lib.ListN.{length, length-set}
+use lib.ListN.{length}
 use Rattle.script_wire.specs.Answer.{Kept}
 use Rattle.script_wire.proofs.Laws.{kept-none, kept-set}
 use borrow.Author.Needs.{needs}

@@ -1,6 +1,4 @@
 -- `spach::read_identity` meets its contract. Assumes nothing.
-use mathlib.Core.Path.{_≡_, sym, ap, _∙_}
-use native.Mathlib.Omega.{arith}
 use borrow.Author.Needs.{needs}
 use Rattle.field.specs.Bits.{bitsOf}
 use Rattle.rach.proofs.Laws.{width-least, width-most}

@@ -1,5 +1,5 @@
 -- `arq::check::check_begin` meets its contract. Assumes nothing.
-use mathlib.Core.Path.{_≡_, sym, _∙_}
+use mathlib.Core.Path.{sym, _∙_}
 use borrow.Author.Tests.{lt-ltb, le-ltb, not-true, not-false}
 use borrow.Author.Needs.{needs}
 use Rattle.arq.proofs.check.check_begin.Statement.{statement}

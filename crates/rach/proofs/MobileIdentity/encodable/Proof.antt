@@ -1,5 +1,5 @@
 -- `rach::MobileIdentity::encodable` meets its contract. Assumes nothing.
-use mathlib.Core.Path.{_≡_, ap, _∙_}
+use mathlib.Core.Path.{ap, _∙_}
 use borrow.Author.Needs.{needs}
 use Rattle.rach.specs.Identity.{typeOf, inRange, encodable}
 use Rattle.rach.proofs.Laws.{width-most}

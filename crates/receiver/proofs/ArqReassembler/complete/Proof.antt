@@ -1,6 +1,5 @@
 -- `receiver::ArqReassembler::complete` meets its contract. Assumes nothing.
 use borrow.Author.Tests.{not-true, not-false}
-use borrow.Author.Needs.{needs}
 use Rattle.receiver.proofs.ArqReassembler.complete.Statement.{statement}
 use Rattle.receiver.proofs.ArqReassembler.complete.Tie as tie
 

@@ -1,7 +1,5 @@
 -- `receiver::ArqReassembler::try_new` meets its contract. Assumes nothing.
-use mathlib.Core.Path.{_≡_, sym, ap, _∙_}
 use borrow.Author.Needs.{needs}
-use Rattle.spach.specs.Refusal.{verdictOf}
 use Rattle.receiver.proofs.Pushes.{new-accepted, new-refused}
 use Rattle.receiver.proofs.ArqReassembler.try_new.Statement.{statement}
 use Rattle.receiver.proofs.ArqReassembler.try_new.Tie as tie

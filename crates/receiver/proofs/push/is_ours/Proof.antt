@@ -1,5 +1,4 @@
 -- `receiver::push::is_ours` meets its contract. Assumes nothing.
-use mathlib.Core.Path.{sym, ap, _∙_}
 use borrow.Author.Tests.{eq-eqb, ne-eqb, not-true, not-false}
 use borrow.Author.Needs.{needs}
 use Rattle.receiver.proofs.push.is_ours.Statement.{statement}

@@ -1,5 +1,4 @@
 -- `receiver::push::push_continue` meets its contract. Assumes nothing.
-use native.Mathlib.Omega.{arith}
 use borrow.Author.Needs.{needs}
 use Rattle.receiver.proofs.Pushes.{continue-number, continue-filler, continue-conflict, continue-stored}
 use Rattle.receiver.proofs.push.push_continue.Statement.{statement}
