@@ -1,7 +1,7 @@
 -- What 01 says of the constructor and of a push, beside demand 3: laws of the definitions. Assumes nothing.
 use mathlib.Core.Path.{_≡_, refl, sym, ap, _∙_}
 use mathlib.Core.Logic.{_⊎_, inl, inr, ⊎-elim, _↔_}
-use mathlib.Core.Bool.{true, false, not}
+use mathlib.Core.Bool.{Bool, true, false, cond, not}
 use mathlib.Core.List.{List, _++_}
 use Prim.Native.Nat.{ℕ, _^_, _≤_, _<_}
 use native.Mathlib.Omega.{arith}
@@ -15,7 +15,9 @@ use Rattle.spach.proofs.Outcomes.{passed}
 use Rattle.arq.specs.declared.ArqFrame.{ArqFrame}
 use Rattle.arq.specs.Decode.{decodeOf}
 use Rattle.receiver.specs.declared.ArqReassembler.{ArqReassembler}
+use Rattle.receiver.specs.declared.ArqStatus.{ArqStatus}
 use Rattle.receiver.specs.declared.SingleMessage.{SingleMessage}
+use Rattle.receiver.specs.declared.StatusAnswer.the-variants as statuses
 use Rattle.receiver.specs.declared.Delivery.{Delivery}
 use Rattle.receiver.specs.declared.Delivery.the-variants as deliveries
 use Rattle.receiver.specs.declared.Request.{Request}
@@ -23,14 +25,17 @@ use Rattle.receiver.specs.declared.Request.the-variants as requests
 use Rattle.receiver.specs.declared.Reception.{Reception}
 use Rattle.receiver.specs.declared.Reception.the-variants.{Ignored, Accepted}
 use Rattle.receiver.specs.Map.{withBit}
-use Rattle.receiver.specs.Receiver.{Out, fresh, newOf, begun, stored, statusOf, requestOf, putSlot, assembled, finish, pushFrame, pushOf, pushDecoded}
+use Rattle.receiver.specs.Receiver.{Out, fresh, newOf, begun, stored, statusOf, statusAnswer, requestOf, putSlot, assembled, finish, pushFrame, pushOf, pushDecoded}
 use Rattle.receiver.specs.Demand3.{BeginFor}
 use Rattle.receiver.proofs.Heard.{decode-numbers}
-use Rattle.receiver.proofs.Ways.{true-false, pick-true, pick-false, Unheeded, Past, Filler, Conflict, Taken, own-way, unheeded-way, past-way, filler-way, conflict-way, taken-way, frame-ways, finish-ways, short-way, decode-way, push-ways}
+use Rattle.receiver.proofs.Ways.{by-bool, true-false, pick-true, pick-false, Unheeded, Past, Filler, Conflict, Taken, own-way, unheeded-way, past-way, filler-way, conflict-way, taken-way, frame-ways, finish-ways, short-way, decode-way, push-ways}
+
+gives-refuses : {A : Type 0} {x : A} {n : ℕ} → _≡_ {A = Outcome A} (gives x) (refuses n) → ⊥
+gives-refuses e = let z : _≡_ {A = ℕ} 0 1 = cc in omega arith
 
 -- ---- the constructor
 
--- "an identity of 1 to 2^width − 1": it accepts exactly such a one
+-- "Encoding needs 1 to 2^width − 1": it accepts exactly such an identity
 pub made-exactly : (i : MobileIdentity) → (newOf i ≡ gives (fresh i)) ↔ ((0 < valueOf i) × (valueOf i < 2 ^ widthOf (typeOf i)))
 unfolding newOf encodable
 made-exactly i = (
@@ -38,13 +43,39 @@ made-exactly i = (
   (λ p. rw (in-range (valueOf i) (widthOf (typeOf i)) (p .0) (p .1))),
 )
 
+-- "Made with a bad identity 2": and refuses every other by 2
+pub made-2-exactly : (i : MobileIdentity) → (newOf i ≡ refuses 2) ↔ ((0 < valueOf i) × (valueOf i < 2 ^ widthOf (typeOf i)) → ⊥)
+unfolding newOf encodable
+made-2-exactly i = (
+  (λ e p. gives-refuses (sym (made-exactly i .1 p) ∙ e)),
+  (λ n. ⊎-elim (λ e. absurd (n (range-in (valueOf i) (widthOf (typeOf i)) e))) refused (by-bool (encodable i))),
+)
+  where
+    refused : encodable i ≡ false → newOf i ≡ refuses 2
+    refused e = rw e
+
+-- ---- `status`
+
+-- what `status` tells is what the state holds
+pub status-held : (s : ArqReassembler) {e w : ℕ} → statusAnswer s ≡ statuses.Status (record { «partial_echo» = e; «received_frames» = w }) → (s .transaction .held ≡ true) × (w ≡ s .«received_frames»)
+unfolding statusAnswer
+status-held s {e} {w} = go (s .transaction .held)
+  where
+    go : (x : Bool) → cond x (statuses.Status (statusOf s)) statuses.Nothing ≡ statuses.Status (record { «partial_echo» = e; «received_frames» = w }) → (x ≡ true) × (w ≡ s .«received_frames»)
+    go true q =
+        let z : _≡_ {A = ArqStatus} (statusOf s) (record { «partial_echo» = e; «received_frames» = w }) = cc in
+        (refl, sym (ap (λ (t : ArqStatus). t .«received_frames») z))
+    go false q = let z : _≡_ {A = ℕ} 0 1 = cc in absurd (omega arith)
+
+-- and nothing where nothing is held
+pub status-none : (s : ArqReassembler) → s .transaction .held ≡ false → statusAnswer s ≡ statuses.Nothing
+unfolding statusAnswer
+status-none s e = pick-false _ _ e
+
 -- ---- outcomes told apart
 
 accepted-ignored : {g : Delivery} {r : Request} → _≡_ {A = Outcome Reception} (gives (Accepted g r)) (gives Ignored) → ⊥
 accepted-ignored e = let z : _≡_ {A = ℕ} 0 1 = cc in omega arith
-
-gives-refuses : {x : Reception} {n : ℕ} → _≡_ {A = Outcome Reception} (gives x) (refuses n) → ⊥
-gives-refuses e = let z : _≡_ {A = ℕ} 0 1 = cc in omega arith
 
 numbers-differ : {k n : ℕ} → (k ≡ n → ⊥) → _≡_ {A = Outcome Reception} (refuses k) (refuses n) → ⊥
 numbers-differ d e = d (cc)
@@ -202,6 +233,7 @@ pub record DeliveryOf (b : List ℕ) (d : SingleMessage) (o : Out) : Type 0 wher
   pub identity : d .identity ≡ o .receiver .identity
   pub octets : d .length ≡ o .receiver .transaction .«message_octets»
   pub buffer : o .buffer ≡ assembled (o .receiver) ++ drop (d .length) b
+  pub marked : o .receiver .delivered ≡ true
 
 message-inj : {a d : SingleMessage} {q r : Request} → _≡_ {A = Outcome Reception} (gives (Accepted (deliveries.Message a) q)) (gives (Accepted (deliveries.Message d) r)) → a ≡ d
 message-inj e = cc
@@ -214,7 +246,7 @@ module _ (d : SingleMessage) (r : Request) where
   unfolding assembled
   finish-delivers f t b =
       finish-ways f t b (λ o. GivesMessage d r o → DeliveryOf b d o)
-      (λ x e. rw (← message-inj e) (record { channel = refl; flags = refl; identity = refl; octets = refl; buffer = refl }))
+      (λ x e. rw (← message-inj e) (record { channel = refl; flags = refl; identity = refl; octets = refl; buffer = refl; marked = refl }))
       (λ x e. absurd (nothing-message e))
 
   -- so is every message, of a frame that was heard
@@ -268,6 +300,18 @@ module _ (s : ArqReassembler) (xs b : List ℕ) where
   -- and an Ignored frame changes nothing
   pub ignored-leaves : pushOf s xs b .outcome ≡ gives Ignored → (pushOf s xs b .receiver ≡ s) × (pushOf s xs b .buffer ≡ b)
   ignored-leaves = unaccepted-leaves (gives Ignored) unaccepted-ignored
+
+  -- "all other octets of it are untouched, as they are without delivery": an answer without a message leaves the buffer
+  pub no-message-leaves : (r : Request) → pushOf s xs b .outcome ≡ gives (Accepted deliveries.Nothing r) → pushOf s xs b .buffer ≡ b
+  no-message-leaves r =
+      push-ways s xs b P (λ l e. refl) (λ k q e. refl)
+      (λ f q. frame-ways s f b P (λ c. after f (begun s f)) (λ c e. refl) (λ c e. refl) (λ c e. refl) (λ c e. refl) (λ c. after f (stored s f)))
+    where
+      P : Out → Type 0
+      P o = o .outcome ≡ gives (Accepted deliveries.Nothing r) → o .buffer ≡ b
+
+      after : (f : ArqFrame) (t : ArqReassembler) → P (finish f t b)
+      after f t = finish-ways f t b P (λ d e. absurd (nothing-message (sym e))) (λ d e. refl)
 
   -- the identity stays
   pub identity-kept : pushOf s xs b .receiver .identity ≡ s .identity

@@ -47,7 +47,7 @@ valid-fresh i e =
       slots-size = refl;
       slots-octets = octets-zeros 260;
       low = pow-pos (continues i 0);
-      unheard = λ h. refl;
+      map-empty = λ h. refl;
       undelivered = λ h. refl;
     }
 
@@ -78,7 +78,7 @@ module _ (s : ArqReassembler) (v : Valid s) (f : ArqFrame) (d : Decoded f) where
         slots-size = refl;
         slots-octets = octets-zeros 260;
         low = pow-pos (continues (s .identity) (f .«message_octets»));
-        unheard = λ h. refl;
+        map-empty = λ h. refl;
         undelivered = λ h. refl;
       }
 
@@ -98,7 +98,7 @@ module _ (s : ArqReassembler) (v : Valid s) (f : ArqFrame) (d : Decoded f) where
         slots-size = length-put (s .slots) (f .«frame_number») (f .«continue_data») inside ten ∙ v .slots-size;
         slots-octets = octets-put (s .slots) (f .«frame_number») (f .«continue_data») (v .slots-octets) octs;
         low = added-lt (needed s) (s .«received_frames») (f .«frame_number») (v .low) l;
-        unheard = λ h. absurd (true-false held h);
+        map-empty = λ h. absurd (true-false held h);
         undelivered = λ h. absurd (true-false held h);
       }
 
@@ -114,7 +114,7 @@ valid-marked s held v =
       slots-size = v .slots-size;
       slots-octets = v .slots-octets;
       low = v .low;
-      unheard = v .unheard;
+      map-empty = v .map-empty;
       undelivered = λ h. absurd (true-false held h);
     }
 

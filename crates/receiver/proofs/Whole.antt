@@ -192,7 +192,7 @@ module _ {i : MobileIdentity} {m : List ℕ} {b : ArqFrame} {l : List Push} (fit
     before = run (fresh i) a
 
     abbrev Comes : Type 0
-    Comes = Completes newOf pushOf statusAnswer i b (wanted i m) a p
+    Comes = Completes i b (wanted i m) a p
 
     -- it delivers the message if it completes the set, else nothing
     pub record Both : Type 0 where

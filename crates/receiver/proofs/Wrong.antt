@@ -1,7 +1,7 @@
 -- Receivers that demand 3 shuts out, and what it leaves to the laws beside it. Assumes nothing.
 use mathlib.Core.Path.{_≡_, refl, sym, ap, subst, _∙_}
 use mathlib.Core.Logic.{inl, inr}
-use mathlib.Core.Bool.{Bool, true, false, cond}
+use mathlib.Core.Bool.{true, false}
 use mathlib.Core.List.{List, [], _∷_, _++_, cons≢nil, head-eq-of-cons-eq}
 use mathlib.Core.List.List·Memᴰ.{List·Memᴰ·head, List·Memᴰ·tail}
 use Prim.Native.Nat.{ℕ}
@@ -17,12 +17,12 @@ use Rattle.arq.specs.Frame.{packed, beginFrame, continueFrame}
 use Rattle.arq.specs.Encode.{encodeOf}
 use Rattle.arq.specs.Decode.{decodeOf}
 use Rattle.receiver.specs.declared.ArqReassembler.{ArqReassembler}
-use Rattle.receiver.specs.declared.ArqStatus.{ArqStatus}
 use Rattle.receiver.specs.declared.StatusAnswer.{StatusAnswer}
 use Rattle.receiver.specs.declared.StatusAnswer.the-variants as statuses
 use Rattle.receiver.specs.Map.{In}
-use Rattle.receiver.specs.Receiver.{Out, fresh, newOf, statusOf, statusAnswer, slotAt, putSlot, gathered, assembled, ignored, finish, pushContinue, pushFrame, pushOf}
+use Rattle.receiver.specs.Receiver.{Out, fresh, newOf, statusAnswer, slotAt, putSlot, gathered, assembled, ignored, finish, pushContinue, pushFrame, pushOf}
 use Rattle.receiver.specs.Demand3.{Push, heard, heards, HeardNo, Claim, Completes, At, runs, handed}
+use Rattle.receiver.proofs.Laws.{status-held}
 use Rattle.receiver.proofs.Maps.{none-in}
 use Rattle.receiver.proofs.Valid.{handed-either}
 use Rattle.receiver.proofs.Ways.{true-false}
@@ -47,9 +47,9 @@ nought ts e = (
 )
 
 -- so it completes nothing
-completes-not : (push : ArqReassembler → List ℕ → List ℕ → Out) → Completes newOf push statusAnswer receiver b 3 sooner final → ⊥
-completes-not push (inl w) = cons≢nil (sym (hear-sooner .0) ∙ w .0)
-completes-not push (inr w) =
+completes-not : Completes receiver b 3 sooner final → ⊥
+completes-not (inl w) = cons≢nil (sym (hear-sooner .0) ∙ w .0)
+completes-not (inr w) =
     let e : w .0 ≡ c loud 0 = head-eq-of-cons-eq (sym (w .1) ∙ hear-sooner .1) in
     w .4 (subst (λ (f : ArqFrame). HeardNo receiver b (heards sooner) (f .«frame_number»)) (sym e) (nought (c plain 1 ∷ []) (hear-sooner .0)))
 
@@ -62,17 +62,6 @@ module _ (push : ArqReassembler → List ℕ → List ℕ → Out) (claim : Clai
   told =
       let t = at-end .map-is (λ e. cons≢nil (sym (hear .0) ∙ e)) in
       (t .0, t .1, t .2 0 .1 (nought (c plain 1 ∷ c loud 0 ∷ []) (hear .0)))
-
--- what `status` tells is what the state holds
-status-held : (s : ArqReassembler) {e w : ℕ} → statusAnswer s ≡ statuses.Status (record { «partial_echo» = e; «received_frames» = w }) → (s .transaction .held ≡ true) × (w ≡ s .«received_frames»)
-unfolding statusAnswer
-status-held s {e} {w} = go (s .transaction .held)
-  where
-    go : (x : Bool) → cond x (statuses.Status (statusOf s)) statuses.Nothing ≡ statuses.Status (record { «partial_echo» = e; «received_frames» = w }) → (x ≡ true) × (w ≡ s .«received_frames»)
-    go true q =
-        let z : _≡_ {A = ArqStatus} (statusOf s) (record { «partial_echo» = e; «received_frames» = w }) = cc in
-        (refl, sym (ap (λ (t : ArqStatus). t .«received_frames») z))
-    go false q = let z : _≡_ {A = ℕ} 0 1 = cc in absurd (omega arith)
 
 -- ---- shut out
 
@@ -91,7 +80,7 @@ no-deaf claim =
     let h : fresh receiver .transaction .held ≡ true = status-held (fresh receiver) (ap statusAnswer (sym (deaf-stays pushes (fresh receiver))) ∙ t .1) .0 in
     true-false h refl
 
--- "or takes the Begin and feigns the rest": what it answers is right, but no number stays in its map
+-- "or takes the Begin and feigns the rest": each push is answered as from an empty map, and no number stays in it
 abbrev emptied : ArqReassembler → ArqReassembler
 emptied s = record { identity = s .identity; transaction = s .transaction; slots = s .slots; «received_frames» = 0; delivered = s .delivered }
 
@@ -125,7 +114,7 @@ repeating s xs buffer =
 -- its last push is not silent
 pub no-repeating : Claim newOf repeating statusAnswer → ⊥
 unfolding pushOf pushFrame pushContinue finish assembled gathered slotAt putSlot same ones onesIn decodeOf headerAAt addressAt bitsOf bits value octets field upTo layout anySet encodeOf beginFrame continueFrame packed encodable inRange
-no-repeating claim = at-end repeating claim .others (completes-not repeating) .answer
+no-repeating claim = at-end repeating claim .others completes-not .answer
 
 -- ---- left to the laws beside it
 

@@ -102,6 +102,14 @@ pub record Fitting (i : MobileIdentity) (m : List ℕ) (b : ArqFrame) (l : List 
 
 -- ---- what a push delivers
 
+-- "The push that completes the set (the Begin's if none is needed)": the push p after the pushes a hears the Begin and
+-- none is needed, or it hears such a Continue with the last needed number that was missing
+abbrev pub Completes : MobileIdentity → ArqFrame → ℕ → List Push → Push → Type 0
+Completes i b n a p =
+    ((heards a ≡ []) × (heard p ≡ b ∷ []) × (n ≡ 0))
+    ⊎ ((f : ArqFrame) × (heard p ≡ f ∷ []) × Such i b f × (f .«frame_number» < n) × (HeardNo i b (heards a) (f .«frame_number») → ⊥)
+    × ((k : ℕ) → k < n → (k ≡ f .«frame_number» → ⊥) → HeardNo i b (heards a) k))
+
 -- a push delivers if its answer gives a message: of this length, or none
 abbrev pub Delivered : ℕ → Outcome Reception → Type 0
 Delivered n (gives (Accepted (Message m) r)) = m .length ≡ n
@@ -140,14 +148,6 @@ module _ (new : MobileIdentity → Outcome ArqReassembler) (push : ArqReassemble
   abbrev pub runs : ArqReassembler → List Push → ArqReassembler
   runs s [] = s
   runs s (p ∷ l) = runs (next s (push s (p .octets) (p .buffer))) l
-
-  -- "The push that completes the set (the Begin's if none is needed)": the push p after the pushes a hears the Begin and
-  -- none is needed, or it hears such a Continue with the last needed number that was missing
-  abbrev pub Completes : MobileIdentity → ArqFrame → ℕ → List Push → Push → Type 0
-  Completes i b n a p =
-      ((heards a ≡ []) × (heard p ≡ b ∷ []) × (n ≡ 0))
-      ⊎ ((f : ArqFrame) × (heard p ≡ f ∷ []) × Such i b f × (f .«frame_number» < n) × (HeardNo i b (heards a) (f .«frame_number») → ⊥)
-      × ((k : ℕ) → k < n → (k ≡ f .«frame_number» → ⊥) → HeardNo i b (heards a) k))
 
   -- what holds of the push p after the pushes a; the numbers needed are those below the frame count less one
   pub record At (i : MobileIdentity) (m : List ℕ) (b : ArqFrame) (count : ℕ) (s : ArqReassembler) (a : List Push) (p : Push) : Type 0 where

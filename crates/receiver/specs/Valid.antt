@@ -1,4 +1,4 @@
--- What every state is that the constructor, push and reset make: the invariant that a call is handed. Assumes nothing.
+-- What every state is that the constructor, push and reset make. No call asks for it. Assumes nothing.
 use mathlib.Core.Path.{_≡_}
 use mathlib.Core.Bool.{true, false}
 use Prim.Native.Nat.{_^_, _<_}
@@ -20,6 +20,6 @@ pub record Valid (s : ArqReassembler) : Type 0 where
   pub slots-octets : Octets (s .slots)
   -- the map has only numbers that are needed: so a count of its ones shows completion
   pub low : s .«received_frames» < 2 ^ needed s
-  -- where nothing is held, nothing was heard and nothing delivered
-  pub unheard : s .transaction .held ≡ false → s .«received_frames» ≡ 0
+  -- where nothing is held, the map is empty and nothing is delivered
+  pub map-empty : s .transaction .held ≡ false → s .«received_frames» ≡ 0
   pub undelivered : s .transaction .held ≡ false → s .delivered ≡ false

@@ -108,11 +108,14 @@ impl ArqReassembler {
     }
 
     // Nothing is held afterwards.
-    pub fn reset(self) -> ArqReassembler
+    pub fn reset(mut self) -> ArqReassembler
         ensures { λ r. ⌜ r ≡ resetOf self ⌝ }
     {
-        let identity = self.identity;
-        state::fresh_receiver(identity)
+        self.transaction = state::nothing_held();
+        self.slots = [0u8; 260];
+        self.received_frames = 0;
+        self.delivered = false;
+        self
     }
 
     // Echo and map of the transaction held.
@@ -137,7 +140,7 @@ impl ArqReassembler {
         self.delivered
     }
 
-    // Hears the octets of a frame. A complete message goes to the front of the buffer.
+    // The octets of a frame, if they are one. A complete message goes to the front of the buffer.
     pub fn push(self, octets: &[u8], buffer: &mut [u8]) -> Pushed
         ensures { λ r. ⌜ pushed r (now (buffer .exit)) ≡ pushOf self (now (octets .entry)) (now (buffer .entry)) ⌝ }
     {

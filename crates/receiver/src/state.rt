@@ -13,7 +13,7 @@ ghost use mathlib.Core.Path.{_≡_};
 ghost use Prim.Native.Nat.{_≤_, _<_};
 ghost use Rattle.receiver.specs.Receiver.{nothingHeld, fresh, begun, stored, marked, needed, due, statusOf, requestOf};
 
-fn nothing_held() -> Transaction
+pub fn nothing_held() -> Transaction
     ensures { λ r. ⌜ r ≡ nothingHeld ⌝ }
 {
     let flags = HeaderFlags {
