@@ -14,10 +14,10 @@ unfolding longestOf
 known-first zero h = absurd (omega arith)
 known-first (suc op) h = omega arith
 
-pub known-last : (op : ℕ) → 1 ≤ longestOf op → op ≤ 16
+pub known-last : (op : ℕ) → 1 ≤ longestOf op → op ≤ 21
 unfolding longestOf
 known-last op h =
-    let below : op < 17 = lt-of-not-le (λ past. omega (arith, List·getD-eq-default longestTable 0 past)) in
+    let below : op < 22 = lt-of-not-le (λ past. omega (arith, List·getD-eq-default longestTable 0 past)) in
     omega arith
 
 -- what an operation needs and answers, by its number

@@ -4,6 +4,8 @@ mod timing;
 
 use script_leaf::headers;
 use script_leaf::identities;
+use script_receiver::Machine;
+use script_receiver::Ran;
 ghost use mathlib.Core.Path.{_≡_};
 ghost use Prim.Native.Nat.{_+_, _≤_};
 ghost use lib.ListN.{length, drop};
@@ -65,7 +67,28 @@ fn run_codec(
     }
 }
 
-// One operation, with its operands at `at` and its answer at `to`; how many octets it answered.
+// Operations 17 to 21.
+fn run_receiver(
+    op: u8,
+    machine: Machine,
+    script: &[u8],
+    at: usize,
+    answers: &mut [u8],
+    to: usize,
+) -> Ran
+    requires { ⌜ Ready (operandsOf op) (longestOf op) at to (now script) (now answers) × (17 ≤ op) × (op ≤ 21) ⌝ }
+    ensures { λ r. ⌜ Answered (longestOf op) to (r .answered) (now (answers .entry)) (now (answers .exit)) ⌝ }
+{
+    match op {
+        17 => script_receiver::op_new(machine, script, at, answers, to),
+        18 => script_receiver::op_push(machine, script, at, answers, to),
+        19 => script_receiver::op_reset(machine, answers, to),
+        20 => script_receiver::op_status(machine, answers, to),
+        _ => script_receiver::op_complete(machine, answers, to),
+    }
+}
+
+// One operation of 1 to 16, with its operands at `at` and its answer at `to`; how many octets it answered.
 fn run(
     op: u8,
     script: &[u8],
@@ -75,7 +98,7 @@ fn run(
     answers: &mut [u8],
     to: usize,
 ) -> usize
-    requires { ⌜ Ready (operandsOf op) (longestOf op) at to (now script) (now answers) × (length (now store) ≡ 64) × (length (now message) ≡ 304) × (1 ≤ longestOf op) ⌝ }
+    requires { ⌜ Ready (operandsOf op) (longestOf op) at to (now script) (now answers) × (length (now store) ≡ 64) × (length (now message) ≡ 304) × (1 ≤ op) × (op ≤ 16) ⌝ }
     ensures { λ r. ⌜ Answered (longestOf op) to r (now (answers .entry)) (now (answers .exit)) ⌝ }
 {
     if op < 5 {
@@ -93,7 +116,31 @@ fn run(
     run_codec(op, script, at, message, answers, to)
 }
 
-// Runs the script on a store and a message of zeros. How many octets were answered, the end octet with them; all others stay.
+// One operation; the machine after it, and how many octets it answered.
+fn step(
+    op: u8,
+    script: &[u8],
+    at: usize,
+    store: &mut [u8],
+    message: &mut [u8],
+    machine: Machine,
+    answers: &mut [u8],
+    to: usize,
+) -> Ran
+    requires { ⌜ Ready (operandsOf op) (longestOf op) at to (now script) (now answers) × (length (now store) ≡ 64) × (length (now message) ≡ 304) × (1 ≤ longestOf op) ⌝ }
+    ensures { λ r. ⌜ Answered (longestOf op) to (r .answered) (now (answers .entry)) (now (answers .exit)) ⌝ }
+{
+    if 16 < op {
+        return run_receiver(op, machine, script, at, answers, to);
+    }
+    let answered = run(op, script, at, store, message, answers, to);
+    Ran {
+        machine: machine,
+        answered: answered,
+    }
+}
+
+// Runs the script on a store and a message of zeros, without a receiver. How many octets were answered, the end octet with them; all others stay.
 #[no_mangle]
 pub extern "C" fn script_run(script: &[u8], answers: &mut [u8]) -> usize
     ensures { λ r. ⌜ (r ≤ length (now (answers .entry))) × (drop r (now (answers .exit)) ≡ drop r (now (answers .entry))) ⌝ }
@@ -103,6 +150,7 @@ pub extern "C" fn script_run(script: &[u8], answers: &mut [u8]) -> usize
     }
     let mut store = [0u8; 64];
     let mut message = [0u8; 304];
+    let mut machine = script_receiver::no_receiver();
     let mut at: usize = 0;
     let mut to: usize = 0;
     while at < script.len() {
@@ -112,7 +160,18 @@ pub extern "C" fn script_run(script: &[u8], answers: &mut [u8]) -> usize
         if end != 0 {
             return to + script_wire::answer(answers, to, end);
         }
-        to += run(op, script, at, &mut store, &mut message, answers, to);
+        let ran = step(
+            op,
+            script,
+            at,
+            &mut store,
+            &mut message,
+            machine,
+            answers,
+            to,
+        );
+        machine = ran.machine;
+        to += ran.answered;
         at += table::operands(op);
     }
     to + script_wire::answer(answers, to, 0xe0)

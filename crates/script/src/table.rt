@@ -7,8 +7,31 @@ ghost use Rattle.script.specs.Table.{operandsOf, longestOf};
 pub fn operands(op: u8) -> usize
     ensures { λ r. ⌜ r ≡ operandsOf op ⌝ }
 {
-    let table: [usize; 17] = [0, 9, 9, 18, 9, 15, 15, 3, 11, 9, 0, 6, 36, 33, 9, 16, 18];
-    if 16 < op {
+    let table: [usize; 22] = [
+        0,
+        9,
+        9,
+        18,
+        9,
+        15,
+        15,
+        3,
+        11,
+        9,
+        0,
+        6,
+        36,
+        33,
+        9,
+        16,
+        18,
+        9,
+        36,
+        0,
+        0,
+        0,
+    ];
+    if 21 < op {
         return 0;
     }
     table[op as usize]
@@ -18,8 +41,31 @@ pub fn operands(op: u8) -> usize
 pub fn longest(op: u8) -> usize
     ensures { λ r. ⌜ r ≡ longestOf op ⌝ }
 {
-    let table: [usize; 17] = [0, 11, 1, 2, 10, 4, 12, 11, 1, 1, 65, 1, 15, 37, 1, 2, 37];
-    if 16 < op {
+    let table: [usize; 22] = [
+        0,
+        11,
+        1,
+        2,
+        10,
+        4,
+        12,
+        11,
+        1,
+        1,
+        65,
+        1,
+        15,
+        37,
+        1,
+        2,
+        37,
+        1,
+        327,
+        1,
+        7,
+        2,
+    ];
+    if 21 < op {
         return 0;
     }
     table[op as usize]

@@ -39,3 +39,8 @@ pub extern "C" fn time_decode(octets: &[u8], rounds: u64) -> u64 {
 pub extern "C" fn time_cut(operands: &[u8], message: &[u8], rounds: u64, encode: bool) -> u64 {
     script_timing::frames::time_cut(operands, message, rounds, encode)
 }
+
+#[no_mangle]
+pub extern "C" fn time_receive(identity: &[u8], octets: &[u8], rounds: u64) -> u64 {
+    script_timing::receive::time_receive(identity, octets, rounds)
+}

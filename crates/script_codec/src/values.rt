@@ -12,7 +12,7 @@ fn kind_octet(kind: FrameKind) -> u8 {
     }
 }
 
-fn mode_octet(mode: ResponseMode) -> u8 {
+pub fn mode_octet(mode: ResponseMode) -> u8 {
     match mode {
         ResponseMode::Contention => 0,
         ResponseMode::Reservation => 1,

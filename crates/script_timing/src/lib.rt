@@ -1,5 +1,6 @@
 // Loops of single calls, for timing. A round is handed what came before it, so that no compiler runs it only once.
 pub mod frames;
+pub mod receive;
 
 use spach::AddressAnswer;
 use spach::HeaderAAnswer;

@@ -1,7 +1,7 @@
--- `run` meets its contract: an operation that has an answer is one of the sixteen. Assumes nothing.
+-- `run` meets its contract: each group of operations has its own function. Assumes nothing.
 use native.Mathlib.Omega.{arith}
 use Rattle.script.specs.Table.{operandsOf, longestOf}
-use Rattle.script.proofs.Laws.{known-first, known-last, ready, answered}
+use Rattle.script.proofs.Laws.{ready, answered}
 use borrow.Author.Needs.{needs}
 use Rattle.script.proofs.run.Statement.{statement}
 use Rattle.script.proofs.run.Tie as tie
@@ -9,7 +9,7 @@ use Rattle.script.proofs.run.Tie as tie
 run-identity-requires : tie.Need-run-identity-requires
 run-identity-requires c κs =
     let s = c .before .before .before .before .before .before in
-    (s .pre .0, known-first (s .args .op) (s .pre .3), omega arith)
+    (s .pre .0, s .pre .3, omega arith)
 
 same-length : tie.Need-same-length
 same-length c = search needs
@@ -64,7 +64,7 @@ returns-4 c = search needs
 run-codec-requires : tie.Need-run-codec-requires
 run-codec-requires c κs =
     let s = c .before .before .before .before .before .before .before .before .before .before in
-    (s .pre .0, s .pre .2, omega arith, known-last (s .args .op) (s .pre .3))
+    (s .pre .0, s .pre .2, omega arith, s .pre .4)
 
 same-length-6 : tie.Need-same-length-6
 same-length-6 c = search needs

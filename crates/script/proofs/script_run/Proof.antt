@@ -11,14 +11,17 @@ use Rattle.script.proofs.script_run.Statement.{statement}
 use Rattle.script.proofs.script_run.Tie as tie
 
 abbrev Inv-loop : tie.InvT-loop
-Inv-loop script answers₀ store₀ message₀ at₀ to₀ answers store message at to =
+Inv-loop script answers₀ store₀ message₀ machine₀ at₀ to₀ answers store message machine at to =
     (at ≤ length script) × (to < length answers) × (length answers ≡ length answers₀) × (length store ≡ 64) × (length message ≡ 304) × Kept to answers₀ answers
 
 abbrev μ-loop : tie.MeasureT-loop
-μ-loop script answers₀ store₀ message₀ at₀ to₀ answers store message at to = length script - at
+μ-loop script answers₀ store₀ message₀ machine₀ at₀ to₀ answers store message machine at to = length script - at
 
 returns : tie.Need-returns Inv-loop μ-loop
 returns c = (omega arith, refl)
+
+no-receiver-requires : tie.Need-no-receiver-requires Inv-loop μ-loop
+no-receiver-requires c κs = search needs
 
 loop-holds : tie.Need-loop-holds Inv-loop μ-loop
 loop-holds c = (omega arith, omega arith, refl, refl, refl, kept-none)
@@ -52,21 +55,21 @@ returns-2 c =
     let at = c .before .before .before .before .before .before .before .before in
     (omega arith, kept-join (at .loop .inv .5) (c .before .before .answer .ensures .kept) (omega arith) .rest)
 
-slice-aggregate-run : tie.Need-slice-aggregate-run Inv-loop μ-loop
-slice-aggregate-run c = search needs
+slice-aggregate-step : tie.Need-slice-aggregate-step Inv-loop μ-loop
+slice-aggregate-step c = search needs
 
-slice-aggregate-run-2 : tie.Need-slice-aggregate-run-2 Inv-loop μ-loop
-slice-aggregate-run-2 c = search needs
+slice-aggregate-step-2 : tie.Need-slice-aggregate-step-2 Inv-loop μ-loop
+slice-aggregate-step-2 c = search needs
 
-run-requires : tie.Need-run-requires Inv-loop μ-loop
-run-requires c κs =
+step-requires : tie.Need-step-requires Inv-loop μ-loop
+step-requires c κs =
     let test = c .before .before .before in
     let go = test .before .ended .ensures (test .if2 .left) in
     (record { operands-there = omega arith; room = omega arith }, search needs, search needs, go .0)
 
 add-to : tie.Need-add-to Inv-loop μ-loop
 add-to c =
-    let test = c .before .before .before .before .before .before .before .before in
+    let test = c .before .before .before .before .before .before .before .before .before .before in
     let go = test .before .ended .ensures (test .if2 .left) in
     omega arith
 
@@ -75,7 +78,7 @@ operands-requires c κs = search needs
 
 add-at-2 : tie.Need-add-at-2 Inv-loop μ-loop
 add-at-2 c =
-    let test = c .before .before .before .before .before .before .before .before .before in
+    let test = c .before .before .before .before .before .before .before .before .before .before .before in
     let go = test .before .ended .ensures (test .if2 .left) in
     omega arith
 
@@ -84,11 +87,11 @@ loop-less c = search needs
 
 loop-again : tie.Need-loop-again Inv-loop μ-loop
 loop-again c =
-    let test = c .before .before .before .before .before .before .before .before .before in
+    let test = c .before .before .before .before .before .before .before .before .before .before .before in
     let go = test .before .ended .ensures (test .if2 .left) in
-    let at = c .before .before .before .before .before .before .before .before .before .before .before .before .before in
-    let run = c .before .before .before .before .before in
-    (omega arith, omega arith, omega arith, search needs, search needs, kept-join (at .loop .inv .5) (run .run .ensures .kept) (omega arith))
+    let at = c .before .before .before .before .before .before .before .before .before .before .before .before .before .before .before in
+    let ran = c .before .before .before .before .before .before .before in
+    (omega arith, omega arith, omega arith, search needs, search needs, kept-join (at .loop .inv .5) (ran .step .ensures .kept) (omega arith))
 
 answer-requires-2 : tie.Need-answer-requires-2 Inv-loop μ-loop
 answer-requires-2 c κs = search needs
@@ -111,6 +114,7 @@ script-run-spec =
     Inv-loop
     μ-loop
     returns
+    no-receiver-requires
     loop-holds
     shared-slice-read-op
     add-at
@@ -121,9 +125,9 @@ script-run-spec =
     add-result
     same-length
     returns-2
-    slice-aggregate-run
-    slice-aggregate-run-2
-    run-requires
+    slice-aggregate-step
+    slice-aggregate-step-2
+    step-requires
     add-to
     operands-requires
     add-at-2

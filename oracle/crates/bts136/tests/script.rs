@@ -12,7 +12,7 @@ fn octets(hex: &str) -> Vec<u8> {
 /// Runs a script in ample room: the answers and nothing else, the end octet after them.
 #[track_caller]
 fn answers(script: &str, expected: &str) {
-    let mut room = [0x55; 400];
+    let mut room = [0x55; 4000];
     let length = run(&octets(script), &mut room);
     let mut expected = octets(expected);
     expected.push(END);
@@ -223,6 +223,40 @@ fn cuts() {
     );
 }
 
+fn push(frame: &str, room: &str, filling: &str) -> String {
+    format!("12 0e {frame} {} {room} {filling}", "00".repeat(18))
+}
+#[test]
+fn receivers() {
+    let new = format!("11 {TMSI}");
+    let heard = push(SAMPLE, "00ff", "aa");
+    // the sample is polled, and a whole message of one octet; pushed again, it is delivered again
+    let delivered = format!(
+        "00 01 01 03 00 {TMSI} 01 01 05 00000000 00 00 41 {} {}",
+        "aa".repeat(254),
+        "00".repeat(49)
+    );
+    answers(
+        &format!("{new} {heard} 15 14 {heard} 13 15 14"),
+        &format!("00 {delivered} 00 01 00 01 05 00000000 {delivered} 00 00 00 00 00 00 00000000"),
+    );
+    // no receiver; none after a refused NEW; the old one stays if the operands name no call
+    answers(&format!("{heard} 13 14 15"), "ff ff ff ff");
+    answers(&format!("{new} 11 00 0000000000000000 13"), "00 02 ff");
+    answers(&format!("{new} 11 04 0000000000000001 13"), "00 ff 00");
+    // too short a buffer goes before a set bit of padding, that one before the rest
+    answers(&format!("{new} {}", push(SAMPLE, "00fe", "aa")), "00 10");
+    answers(&format!("{new} {}", push(SAMPLE, "0131", "aa")), "00 ff");
+    let padded = "ffffffffffffffffffffffffffff";
+    answers(&format!("{new} {}", push(padded, "00fe", "aa")), "00 10");
+    answers(&format!("{new} {}", push(padded, "0130", "aa")), "00 0f");
+    // another's Begin is ignored
+    answers(
+        &format!("11 00 0000000000000002 {}", push(SAMPLE, "0130", "bb")),
+        &format!("00 00 {} {}", "00".repeat(22), "bb".repeat(304)),
+    );
+}
+
 /// Runs in a room of this size and gives what was written.
 fn ends(script: &str, room: usize) -> Vec<u8> {
     let mut answers = vec![0x55; room];
@@ -236,7 +270,7 @@ fn ends_of_a_script() {
     assert_eq!(ends("", 1), [END]);
     assert_eq!(ends("", 0), []);
     assert_eq!(ends("00", 1), [END_UNKNOWN]);
-    assert_eq!(ends("11", 1), [END_UNKNOWN]);
+    assert_eq!(ends("16", 1), [END_UNKNOWN]);
     assert_eq!(ends("07 0000", 1), [END_CUT]);
     // CHECK has a longest answer of 1, TAKE of 11 even where it refuses
     assert_eq!(ends("02 00 0000000000000001", 2), [0, END]);

@@ -138,7 +138,10 @@ impl Answers {
         hex(&self.buffer[start..end.min(self.buffer.len())])
     }
     fn number(&self, step: &Step) -> u8 {
-        self.buffer[GUARD + step.answer.start]
+        self.answer(step)[0]
+    }
+    pub fn answer(&self, step: &Step) -> &[u8] {
+        &self.buffer[GUARD + step.answer.start..GUARD + step.answer.end]
     }
     /// `None` if there was no room for it.
     fn end(&self) -> Option<u8> {

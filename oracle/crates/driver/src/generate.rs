@@ -1,10 +1,10 @@
 //! Random scripts, most of their operands at or near a boundary.
-use crate::random::Random;
+use crate::{random::Random, receive};
 use bts136::harness::{
     script::{
-        ACCEPT, ADDRESS, CHECK, COPY, COUNT, DECODE, DECODE_OCTETS, DUMP, ENCODE, EQUAL,
+        ACCEPT, ADDRESS, CHECK, COMPLETE, COPY, COUNT, DECODE, DECODE_OCTETS, DUMP, ENCODE, EQUAL,
         FIELD_BITS, FILL, FRAME, HEADER_A, LAST_ADDRESS, LAST_HEADER_A, MESSAGE, MESSAGE_OCTETS,
-        OPERATIONS, PARTS, PUT, STORE_BITS, TAKE, operation,
+        NEW, OPERATIONS, PARTS, PUSH, PUT, RESET, STATUS, STORE_BITS, TAKE, operation,
     },
     wire::{self, FRAME_OCTETS, HEADER_OCTETS, PARSED_OCTETS},
 };
@@ -41,7 +41,7 @@ fn push_unknown_op(random: &mut Random, script: &mut Vec<u8>) {
     let rest = random.below(3);
     script.extend_from_slice(&operations(random, rest));
 }
-fn flip_a_bit(random: &mut Random, script: &mut [u8]) {
+pub fn flip_a_bit(random: &mut Random, script: &mut [u8]) {
     if !script.is_empty() {
         script[random.below(script.len())] ^= 1 << random.below(8);
     }
@@ -61,6 +61,12 @@ pub fn operations(random: &mut Random, count: usize) -> Vec<u8> {
         left -= usize::from(MESSAGE_EIGHTHS);
     }
     while left > 0 {
+        if left > 10 && random.chance(6) {
+            let transfer = receive::transfer(random, left);
+            left -= transfer.len();
+            script.extend(transfer.concat());
+            continue;
+        }
         let op = 1 + random.below(OPERATIONS.len()) as u8;
         append(random, op, &mut script);
         left -= 1;
@@ -84,14 +90,14 @@ pub fn append(random: &mut Random, op: u8, script: &mut Vec<u8>) {
     script.push(op);
     let start = script.len();
     match op {
-        PARTS | CHECK | ACCEPT => script.extend_from_slice(&identity(random)),
+        PARTS | CHECK | ACCEPT | NEW => script.extend_from_slice(&identity(random)),
         EQUAL => equal(random, script),
         HEADER_A => header_a(random, script),
         ADDRESS => address(random, script),
         TAKE => take(random, script),
         PUT => put(random, script),
         FILL => fill(random, EIGHTHS, script),
-        DUMP => {}
+        DUMP | RESET | STATUS | COMPLETE => {}
         COPY => copy(random, script),
         ENCODE => script.extend_from_slice(&near_parsed(random)),
         DECODE => decode(random, script),
@@ -100,12 +106,16 @@ pub fn append(random: &mut Random, op: u8, script: &mut Vec<u8>) {
             cut(random, script);
         }
         FRAME => cut_frame(random, script),
+        PUSH => {
+            decode(random, script);
+            script.extend_from_slice(&receive::room(random));
+        }
         _ => unreachable!("{} has no operands yet", row.name),
     }
     assert_eq!(script.len() - start, row.operands, "{}", row.name);
 }
 
-fn identity(random: &mut Random) -> [u8; 9] {
+pub fn identity(random: &mut Random) -> [u8; 9] {
     let kind = identity_kind(random);
     identity_operand(kind, identity_value(random, kind))
 }
@@ -309,7 +319,7 @@ fn header(random: &mut Random) -> [u8; HEADER_OCTETS] {
     }
     header
 }
-fn good_header(random: &mut Random) -> [u8; HEADER_OCTETS] {
+pub fn good_header(random: &mut Random) -> [u8; HEADER_OCTETS] {
     [
         random.pick(&[3, 4]),
         random.octet() % 16,
@@ -318,7 +328,7 @@ fn good_header(random: &mut Random) -> [u8; HEADER_OCTETS] {
         random.octet() % 2,
     ]
 }
-fn good_identity(random: &mut Random, kind: u8) -> [u8; 9] {
+pub fn good_identity(random: &mut Random, kind: u8) -> [u8; 9] {
     let last = (1 << wire::identity_width(kind)) - 1;
     let value = match random.below(8) {
         0 => random.pick(&[1, last - 1, last]),
@@ -426,7 +436,7 @@ fn decode(random: &mut Random, script: &mut Vec<u8>) {
     script.extend_from_slice(&operands);
 }
 /// A good frame with another value in one of the fields that decode looks at.
-fn spoiled(random: &mut Random, parsed: &[u8; PARSED_OCTETS]) -> [u8; FRAME_OCTETS] {
+pub fn spoiled(random: &mut Random, parsed: &[u8; PARSED_OCTETS]) -> [u8; FRAME_OCTETS] {
     let mut bits = wire::unpack_frame(&encoded(parsed));
     let (begins, width) = (parsed[0] == 0, wire::identity_width(parsed[6]));
     let echo = if begins { 15 + width } else { 14 };
@@ -497,7 +507,7 @@ pub mod tests {
     /// Every number octet of the table is an answer to one of the scripts.
     pub fn assert_all_reached(scripts: &[Vec<u8>]) {
         let mut seen = BTreeSet::new();
-        let mut answers = vec![0; 1 << 16];
+        let mut answers = vec![0; 1 << 18];
         for script in scripts {
             let mut steps = Vec::new();
             run_each(script, &mut answers, |step| steps.push(step));
@@ -516,7 +526,7 @@ pub mod tests {
     #[test]
     fn random_scripts_have_every_number_octet_of_every_operation() {
         let mut random = Random(1);
-        let scripts: Vec<_> = (0..500).map(|_| script(&mut random)).collect();
+        let scripts: Vec<_> = (0..1500).map(|_| script(&mut random)).collect();
         assert_all_reached(&scripts);
     }
 }

@@ -6,18 +6,21 @@ mod hex;
 mod make;
 mod port;
 mod random;
+mod receive;
 mod time;
 
 use std::{env, path::Path, process::ExitCode};
 
-const USAGE: &str = "usage: driver compare SEED COUNT | exhaust SEED | make FOLDER | time";
+const USAGE: &str =
+    "usage: driver compare SEED COUNT | receive SEED COUNT | exhaust SEED | make FOLDER | time";
 
 fn main() -> ExitCode {
     let arguments: Vec<String> = env::args().skip(1).collect();
     let arguments: Vec<&str> = arguments.iter().map(String::as_str).collect();
     match arguments[..] {
-        ["compare", seed, count] => match (seed.parse(), count.parse()) {
-            (Ok(seed), Ok(count)) => compare::main(seed, count),
+        [command @ ("compare" | "receive"), seed, count] => match (seed.parse(), count.parse()) {
+            (Ok(seed), Ok(count)) if command == "compare" => compare::main(seed, count),
+            (Ok(seed), Ok(count)) => receive::main(seed, count),
             _ => usage(),
         },
         ["exhaust", seed] => seed.parse().map_or_else(|_| usage(), exhaust::main),

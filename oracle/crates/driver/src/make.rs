@@ -9,9 +9,9 @@ use crate::{
 };
 use bts136::harness::{
     script::{
-        self, ACCEPT, ADDRESS, CHECK, COPY, COUNT, DECODE, DUMP, ENCODE, END, EQUAL, FIELD_BITS,
-        FILL, FRAME, HEADER_A, LAST_ADDRESS, LAST_HEADER_A, MESSAGE, OPERATIONS, PARTS, PUT,
-        STORE_BITS, TAKE,
+        self, ACCEPT, ADDRESS, CHECK, COMPLETE, COPY, COUNT, DECODE, DUMP, ENCODE, END, EQUAL,
+        FIELD_BITS, FILL, FRAME, HEADER_A, LAST_ADDRESS, LAST_HEADER_A, MESSAGE, NEW, OPERATIONS,
+        PARTS, PUSH, PUT, RESET, STATUS, STORE_BITS, TAKE,
     },
     wire::{self, FRAME_OCTETS, HEADER_OCTETS, PARSED_OCTETS},
 };
@@ -19,8 +19,8 @@ use std::{collections::BTreeSet, fs, io, path::Path, process::ExitCode};
 
 const SEED: u64 = 136;
 /// What `replay` has room for, script and answers alike.
-const MOST_OCTETS: usize = 24_000;
-const RANDOM_OPERATIONS: usize = 300;
+const MOST_OCTETS: usize = 32_000;
+const RANDOM_OPERATIONS: usize = 200;
 const LINE_OCTETS: usize = 32;
 
 pub fn main(folder: &Path) -> ExitCode {
@@ -67,6 +67,7 @@ fn fixed_script() -> Vec<u8> {
     script.continues();
     script.decodes();
     script.cuts();
+    script.receivers();
     let mut random = Random(SEED);
     for _ in 0..RANDOM_OPERATIONS {
         let op = random.pick(&OPERATIONS.each_ref().map(|operation| operation.op));
@@ -339,6 +340,106 @@ impl Script {
             }
         }
     }
+    /// Without a receiver; refusals; an empty message, one of two Continues and one of 27 frames.
+    fn receivers(&mut self) {
+        let (own, other) = (identity_operand(2, 0x1_2345_6789), identity_operand(2, 1));
+        let two = cut(own, &[0xa5; 20]);
+        let longest: [u8; 255] = std::array::from_fn(|index| index as u8);
+        self.push(NEW, &[&identity_operand(0, 0)]);
+        self.heard(&two[0], 255);
+        for op in [RESET, STATUS, COMPLETE] {
+            self.push(op, &[]);
+        }
+        for (kind, value) in [(0, 1 << 20), (4, 1), (1, 1 << 32), (3, 1)] {
+            self.push(NEW, &[&identity_operand(kind, value)]);
+        }
+        self.push(NEW, &[&own]);
+        self.told();
+        // A Continue before its Begin, and a Begin to another.
+        self.heard(&two[1], 255);
+        self.heard(&cut(other, &[])[0], 255);
+        // An empty message, twice.
+        let empty = &cut(own, &[])[0];
+        self.heard(empty, 304);
+        self.told();
+        self.heard(empty, 255);
+        self.refused_pushes(&two);
+        // The second Continue first; delivered by the first, and not by a polled one after it.
+        self.heard(&two[2], 255);
+        self.heard(&changed(&two[2], 30, 0), 255);
+        self.told();
+        self.heard(&two[1], 256);
+        self.told();
+        self.heard(&two[1], 255);
+        // The Begin again: all is to be heard again.
+        for frame in &two {
+            self.heard(frame, 255);
+        }
+        self.push(RESET, &[]);
+        self.told();
+        self.heard(&two[1], 255);
+        for frame in &cut(own, &longest) {
+            self.heard(frame, 255);
+        }
+        self.told();
+    }
+    /// Every refusal of a push, with a transaction of two Continues held afterwards that has heard none.
+    fn refused_pushes(&mut self, two: &[[u8; PARSED_OCTETS]]) {
+        self.heard(&two[0], 255);
+        for room in [0, 254, 305, 65535] {
+            self.heard(&two[1], room);
+        }
+        let good = encoded(&two[1]);
+        for length in [0, 13, 15, 32, 33] {
+            let mut operands = decode_operands(&good);
+            operands[0] = length;
+            self.push(PUSH, &[&operands, &pair(255), &[0xaa]]);
+        }
+        // Padding, usage, kind and the fourth flag of the Continue; the Begin encrypted, and to nobody.
+        let begin = encoded(&two[0]);
+        let mut nobody = wire::unpack_frame(&begin);
+        set(&mut nobody, 15, 34, 0);
+        let flipped = [
+            (good, 111),
+            (good, 0),
+            (good, 9),
+            (good, 6),
+            (begin, 13),
+            (begin, 14),
+        ];
+        for (frame, place) in flipped {
+            let mut octets = frame;
+            octets[place / 8] ^= 0x80 >> (place % 8);
+            self.push(PUSH, &[&decode_operands(&octets), &pair(255), &[0xaa]]);
+        }
+        let operands = decode_operands(&packed(&nobody));
+        self.push(PUSH, &[&operands, &pair(255), &[0xaa]]);
+        // Echo, channel and type of another; a number that is not needed; filler; other data.
+        for (place, value) in [(3, 6), (1, 4), (24, 1), (25, 2), (25, 25)] {
+            self.heard(&changed(&two[1], place, value), 255);
+        }
+        self.heard(&changed(&two[2], 35, 2), 255);
+        self.heard(&two[1], 255);
+        self.heard(&changed(&two[1], 26, 0), 255);
+        self.heard(&two[0], 255);
+    }
+    fn heard(&mut self, frame: &[u8; PARSED_OCTETS], room: usize) {
+        let operands = decode_operands(&encoded(frame));
+        self.push(PUSH, &[&operands, &pair(room), &[0xaa]]);
+    }
+    fn told(&mut self) {
+        self.push(STATUS, &[]);
+        self.push(COMPLETE, &[]);
+    }
+}
+/// The frames of a message, polled.
+fn cut(identity: [u8; 9], message: &[u8]) -> Vec<[u8; PARSED_OCTETS]> {
+    wire::cut(HEADER, identity, message).expect("a message that is cut")
+}
+fn changed(frame: &[u8; PARSED_OCTETS], place: usize, value: u8) -> [u8; PARSED_OCTETS] {
+    let mut changed = *frame;
+    changed[place] = value;
+    changed
 }
 /// Arch, flags 0, echo 5, polling, Contention.
 const HEADER: [u8; HEADER_OCTETS] = [3, 0, 5, 1, 0];

@@ -40,6 +40,13 @@ mod raw {
             rounds: u64,
             encode: bool,
         ) -> u64;
+        pub fn time_receive(
+            identity: *const u8,
+            identity_length: usize,
+            octets: *const u8,
+            length: usize,
+            rounds: u64,
+        ) -> u64;
     }
 }
 
@@ -109,6 +116,17 @@ pub fn time_cut(operands: &[u8], message: &[u8], rounds: u64, encode: bool) -> u
             message.len(),
             rounds,
             encode,
+        )
+    }
+}
+pub fn time_receive(identity: &[u8], octets: &[u8], rounds: u64) -> u64 {
+    unsafe {
+        raw::time_receive(
+            identity.as_ptr(),
+            identity.len(),
+            octets.as_ptr(),
+            octets.len(),
+            rounds,
         )
     }
 }

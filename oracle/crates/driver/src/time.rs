@@ -20,7 +20,7 @@ const ARQ_ROUNDS: u64 = 70;
 const MESSAGE_OCTETS: usize = 255;
 const SCRIPT_OPERATIONS: usize = 1000;
 /// More than any operations of that number answer.
-const ANSWER_OCTETS: usize = 1 << 17;
+const ANSWER_OCTETS: usize = 1 << 19;
 
 pub fn main() -> ExitCode {
     let mut random = Random(SEED);
@@ -54,6 +54,7 @@ pub fn main() -> ExitCode {
         codec(&mut clock, &mut random, kind, label);
     }
     cuts(&mut clock, &mut random);
+    receivers(&mut clock, &mut random);
     whole_script(&mut clock, &mut random);
     clock.run();
     ExitCode::SUCCESS
@@ -251,6 +252,44 @@ fn cuts(clock: &mut Clock, random: &mut Random) {
             ARQ_ROUNDS as usize,
             move || original(&operands, &message, ARQ_ROUNDS),
             move || port::time_cut(&port_operands, &message, ARQ_ROUNDS, encode),
+        );
+    }
+}
+
+/// A transfer of 255 octets to a Min34, 27 frames: one call is the whole transfer. A push is that of a Begin or, 63 times
+/// as often, of its first Continue.
+fn receivers(clock: &mut Clock, random: &mut Random) {
+    const PUSHES: usize = 64;
+    let identity = generate::identity_operand(2, 0x1_2345_6789);
+    let message = random.octets::<MESSAGE_OCTETS>();
+    let frames = wire::cut([3, 0, 5, 1, 0], identity, &message).expect("a message that is cut");
+    let frames: Vec<_> = frames.iter().map(generate::encoded).collect();
+    let mut again = vec![frames[1]; PUSHES];
+    again[0] = frames[0];
+    for (label, frames, calls) in [
+        ("receive 255 octets, 27 pushes", frames, 1),
+        ("push", again, PUSHES),
+    ] {
+        let octets: Rc<[u8]> = frames.concat().into();
+        let bits = unpack(&octets);
+        let sum = port::time_receive(&identity, &octets, ARQ_ROUNDS);
+        assert_eq!(timing::receive(&identity, &bits, ARQ_ROUNDS), sum);
+        let unpacking = timing::receive_unpacking(&identity, &octets, ARQ_ROUNDS);
+        assert_eq!(unpacking, sum);
+
+        let calls = calls * ARQ_ROUNDS as usize;
+        let [unpacked, first, second] = array::from_fn(|_| octets.clone());
+        clock.add(
+            format!("{label}: ArqReassembler::push on ready-made bools"),
+            calls,
+            move || timing::receive(&identity, &bits, ARQ_ROUNDS),
+            move || port::time_receive(&identity, &first, ARQ_ROUNDS),
+        );
+        clock.add(
+            format!("{label}: ArqReassembler::push, unpacking of the 14 octets counted"),
+            calls,
+            move || timing::receive_unpacking(&identity, &unpacked, ARQ_ROUNDS),
+            move || port::time_receive(&identity, &second, ARQ_ROUNDS),
         );
     }
 }

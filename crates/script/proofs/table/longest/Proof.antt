@@ -11,7 +11,7 @@ use Rattle.script.proofs.table.longest.Tie as tie
 returns : tie.Need-returns
 unfolding longestOf
 returns c =
-    let past : 17 ≤ c .before .args .op = omega arith in
+    let past : 22 ≤ c .before .args .op = omega arith in
     sym (List·getD-eq-default longestTable 0 past)
 
 mul-result : tie.Need-mul-result

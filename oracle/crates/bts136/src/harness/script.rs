@@ -5,7 +5,7 @@ use crate::{
         rach::MobileIdentity,
         spach::{
             Channel, HeaderFlags, SpachError, SpachReceiver as Given,
-            arq::{self, ArqFrame, ArqHeader, ResponseMode},
+            arq::{self, ArqFrame, ArqHeader, ArqReassembler, Reception, ResponseMode},
         },
     },
     phy::control::INFORMATION_BITS,
@@ -30,8 +30,12 @@ pub const LAST_ADDRESS: usize = 57;
 /// The longest input of DECODE.
 pub const DECODE_OCTETS: usize = 32;
 pub const MESSAGE_OCTETS: usize = 304;
+/// The least room that a push takes.
+pub const LEAST_ROOM: usize = 255;
 /// Document 01's own: a bit of padding is set.
 const PADDING: Refusal = Refusal(15);
+/// Document 01's own: the lent buffer is too short for any message.
+const ROOM: Refusal = Refusal(16);
 
 pub const PARTS: u8 = 0x01;
 pub const CHECK: u8 = 0x02;
@@ -49,6 +53,11 @@ pub const DECODE: u8 = 0x0d;
 pub const MESSAGE: u8 = 0x0e;
 pub const COUNT: u8 = 0x0f;
 pub const FRAME: u8 = 0x10;
+pub const NEW: u8 = 0x11;
+pub const PUSH: u8 = 0x12;
+pub const RESET: u8 = 0x13;
+pub const STATUS: u8 = 0x14;
+pub const COMPLETE: u8 = 0x15;
 
 /// A row of the README's table of operations.
 pub struct Operation {
@@ -65,7 +74,7 @@ pub struct Operation {
 
 /// In the order of their op octets, the first of which is 1.
 #[rustfmt::skip]
-pub static OPERATIONS: [Operation; 16] = [
+pub static OPERATIONS: [Operation; 21] = [
     row(PARTS,    "PARTS",     9, 11, &[NO_CALL],          parts),
     row(CHECK,    "CHECK",     9,  1, &[2, NO_CALL],       check),
     row(EQUAL,    "EQUAL",    18,  2, &[NO_CALL],          equal),
@@ -82,6 +91,11 @@ pub static OPERATIONS: [Operation; 16] = [
     row(MESSAGE,  "MESSAGE",   9,  1, &[NO_CALL],          message),
     row(COUNT,    "COUNT",    16,  2, &[1, 2, 3, 11, NO_CALL], count),
     row(FRAME,    "FRAME",    18, 37, &[1, 2, 3, 11, 12, NO_CALL], frame),
+    row(NEW,      "NEW",       9,  1, &[2, NO_CALL],       new),
+    row(PUSH,     "PUSH",     36, 327, &[1, 2, 3, 4, 5, 6, 7, 12, 14, 15, 16, NO_CALL], push),
+    row(RESET,    "RESET",     0,  1, &[NO_CALL],          reset),
+    row(STATUS,   "STATUS",    0,  7, &[NO_CALL],          status),
+    row(COMPLETE, "COMPLETE",  0,  2, &[NO_CALL],          complete),
 ];
 const fn row(
     op: u8,
@@ -122,6 +136,7 @@ pub fn run_each(script: &[u8], answers: &mut [u8], mut each: impl FnMut(Step)) -
     let mut machine = Machine {
         store: [false; STORE_BITS],
         message: [0; MESSAGE_OCTETS],
+        receiver: None,
     };
     let (mut at, mut written) = (0, 0);
     let end = loop {
@@ -180,6 +195,12 @@ fn answer(operation: &Operation, machine: &mut Machine, operands: &[u8], room: &
 struct Machine {
     store: [bool; STORE_BITS],
     message: [u8; MESSAGE_OCTETS],
+    receiver: Option<ArqReassembler>,
+}
+impl Machine {
+    fn receiver(&mut self) -> Result<&mut ArqReassembler, Refusal> {
+        self.receiver.as_mut().ok_or(Refusal(NO_CALL))
+    }
 }
 
 /// An operation that is being run.
@@ -388,16 +409,19 @@ fn encode(call: &mut Call<'_>) -> Answered {
 fn decode(call: &mut Call<'_>) -> Answered {
     let length = usize::from(call.operands.octet());
     call_if(length <= DECODE_OCTETS)?;
-    let octets = &call.operands.octets::<DECODE_OCTETS>()[..length];
-    let mut bits = vec![false; 8 * length];
-    wire::unpack(octets, &mut bits);
-    // The original takes a frame without its padding.
-    if length == FRAME_OCTETS && bits.drain(INFORMATION_BITS..).any(|bit| bit) {
-        return Err(PADDING);
-    }
+    let bits = information(&call.operands.octets::<DECODE_OCTETS>()[..length])?;
     call.values
         .octets(&wire::frame_octets(&arq::decode(&bits)?));
     Ok(())
+}
+/// The bits of what was heard. The original takes a frame without its padding; other lengths it refuses itself.
+fn information(octets: &[u8]) -> Result<Vec<bool>, Refusal> {
+    let mut bits = vec![false; 8 * octets.len()];
+    wire::unpack(octets, &mut bits);
+    if octets.len() == FRAME_OCTETS && bits.drain(INFORMATION_BITS..).any(|bit| bit) {
+        return Err(PADDING);
+    }
+    Ok(bits)
 }
 
 fn message(call: &mut Call<'_>) -> Answered {
@@ -428,5 +452,53 @@ fn frame(call: &mut Call<'_>) -> Answered {
         .get(call.operands.count())
         .ok_or(SpachError::FrameNumber)?;
     call.values.octets(&wire::frame_octets(frame));
+    Ok(())
+}
+
+fn new(call: &mut Call<'_>) -> Answered {
+    let made = ArqReassembler::try_new(call.operands.identity()?);
+    call.machine.receiver = None;
+    call.machine.receiver = Some(made?);
+    Ok(())
+}
+
+fn push(call: &mut Call<'_>) -> Answered {
+    let length = usize::from(call.operands.octet());
+    let octets = call.operands.octets::<DECODE_OCTETS>();
+    let (room, filling) = (call.operands.count(), call.operands.octet());
+    let receiver = call.machine.receiver()?;
+    call_if(length <= DECODE_OCTETS && room <= MESSAGE_OCTETS)?;
+    if room < LEAST_ROOM {
+        return Err(ROOM);
+    }
+    let reception = receiver.push(&information(&octets[..length])?)?;
+    let mut buffer = [0; MESSAGE_OCTETS];
+    buffer[..room].fill(filling);
+    if let Reception::Accepted {
+        message: Some(delivered),
+        ..
+    } = &reception
+    {
+        buffer[..delivered.message.len()].copy_from_slice(&delivered.message);
+    }
+    call.values.octets(&wire::reception_octets(&reception));
+    call.values.octets(&buffer);
+    Ok(())
+}
+
+fn reset(call: &mut Call<'_>) -> Answered {
+    call.machine.receiver()?.reset();
+    Ok(())
+}
+
+fn status(call: &mut Call<'_>) -> Answered {
+    let status = call.machine.receiver()?.status();
+    call.values.octets(&wire::status_octets(status.as_ref()));
+    Ok(())
+}
+
+fn complete(call: &mut Call<'_>) -> Answered {
+    let complete = call.machine.receiver()?.complete();
+    call.values.octet(u8::from(complete));
     Ok(())
 }

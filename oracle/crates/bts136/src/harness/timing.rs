@@ -4,7 +4,7 @@ use super::wire::{self, FRAME_OCTETS, HEADER_OCTETS, PARSED_OCTETS};
 use crate::{
     link::spach::{
         SpachError, SpachReceiver as Given,
-        arq::{self, ArqFrame, ArqHeader},
+        arq::{self, ArqFrame, ArqHeader, ArqReassembler, Reception},
     },
     phy::control::INFORMATION_BITS,
 };
@@ -241,4 +241,51 @@ fn cut_each(
         sum = sum.wrapping_add(told);
     }
     sum
+}
+
+#[inline(never)]
+pub fn receive(identity: &[u8], bits: &[bool], rounds: u64) -> u64 {
+    let frames = bits.chunks_exact(8 * FRAME_OCTETS);
+    receive_each(identity, frames, rounds, |receiver, bits| {
+        receiver.push(&bits[..INFORMATION_BITS])
+    })
+}
+#[inline(never)]
+pub fn receive_unpacking(identity: &[u8], octets: &[u8], rounds: u64) -> u64 {
+    let frames = octets.chunks_exact(FRAME_OCTETS);
+    receive_each(identity, frames, rounds, |receiver, octets| {
+        receiver.push(&wire::unpack_frame(octets)[..INFORMATION_BITS])
+    })
+}
+fn receive_each<F>(
+    identity: &[u8],
+    frames: impl Iterator<Item = F> + Clone,
+    rounds: u64,
+    push: impl Fn(&mut ArqReassembler, F) -> Result<Reception, SpachError>,
+) -> u64 {
+    let value = u64::from_be_bytes(identity[1..].try_into().expect("its octets"));
+    let identity = wire::identity(identity[0], value).expect("an identity");
+    let mut receiver = ArqReassembler::try_new(identity).expect("a good identity");
+    let mut sum = 0u64;
+    for round in 0..rounds {
+        for frame in frames.clone() {
+            let told = told_or_refused(push(&mut receiver, frame), |heard| received(&heard, round));
+            sum = sum.wrapping_add(told);
+        }
+    }
+    sum
+}
+/// What is told of a reception: 0 if it is Ignored; 1, and the length and an octet of a message.
+fn received(reception: &Reception, round: u64) -> u64 {
+    match reception {
+        Reception::Ignored => 0,
+        Reception::Accepted { message: None, .. } => 1,
+        Reception::Accepted {
+            message: Some(delivered),
+            ..
+        } => {
+            let octet = delivered.message.get(round as usize % 255);
+            1 + delivered.message.len() as u64 + u64::from(octet.copied().unwrap_or(0))
+        }
+    }
 }

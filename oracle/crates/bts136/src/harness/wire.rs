@@ -1,10 +1,12 @@
 //! The octets of the protocol as the original's types, and back.
 use crate::{
     link::{
-        rach::MobileIdentity,
+        rach::{ArqStatus, MobileIdentity},
         spach::{
             Channel, HeaderFlags, SpachError,
-            arq::{ArqFrame, ArqHeader, CONTINUE_DATA_BITS, ResponseMode},
+            arq::{
+                ArqFrame, ArqHeader, CONTINUE_DATA_BITS, Reception, ResponseMode, fragment_message,
+            },
         },
     },
     phy::control::INFORMATION_BITS,
@@ -15,6 +17,8 @@ pub const FRAME_OCTETS: usize = 14;
 /// The operands of a header and of a frame, and how an answer has a frame.
 pub const HEADER_OCTETS: usize = 5;
 pub const PARSED_OCTETS: usize = 36;
+const RECEPTION_OCTETS: usize = 22;
+const STATUS_OCTETS: usize = 6;
 const BEGIN_OCTETS: usize = 7;
 const CONTINUE_OCTETS: usize = 10;
 
@@ -96,7 +100,7 @@ fn header_octets(header: &ArqHeader) -> [u8; HEADER_OCTETS] {
         flags(header.flags),
         header.partial_echo,
         u8::from(header.polling),
-        u8::from(header.response_mode == ResponseMode::Reservation),
+        mode_octet(header.response_mode),
     ]
 }
 
@@ -166,6 +170,56 @@ pub fn frame_octets(frame: &ArqFrame) -> [u8; PARSED_OCTETS] {
         }
     }
     octets
+}
+
+/// The frames of a message, each as an answer has it; `None` if it is not cut.
+pub fn cut(
+    header_operand: [u8; HEADER_OCTETS],
+    identity_operand: [u8; 9],
+    message: &[u8],
+) -> Option<Vec<[u8; PARSED_OCTETS]>> {
+    let [kind, value @ ..] = identity_operand;
+    let identity = identity(kind, u64::from_be_bytes(value))?;
+    let frames = fragment_message(header(header_operand)?, identity, message).ok()?;
+    Some(frames.iter().map(frame_octets).collect())
+}
+
+/// A reception as an answer has it.
+pub fn reception_octets(reception: &Reception) -> [u8; RECEPTION_OCTETS] {
+    let mut octets = [0; RECEPTION_OCTETS];
+    let Reception::Accepted {
+        message,
+        status_request,
+    } = reception
+    else {
+        return octets;
+    };
+    octets[0] = 1;
+    if let Some(delivered) = message {
+        let (kind, _, value) = delivered.identity.parts();
+        octets[1..5].copy_from_slice(&[1, delivered.channel as u8, flags(delivered.flags), kind]);
+        octets[5..13].copy_from_slice(&value.to_be_bytes());
+        octets[13] = u8::try_from(delivered.message.len()).expect("255 octets at most");
+    }
+    if let Some(request) = status_request {
+        octets[14..20].copy_from_slice(&status_octets(Some(&request.status)));
+        octets[20] = mode_octet(request.response_mode);
+    }
+    octets
+}
+/// Held, echo and map: bit k of the map, from the lowest, is frame k.
+pub fn status_octets(status: Option<&ArqStatus>) -> [u8; STATUS_OCTETS] {
+    let mut octets = [0; STATUS_OCTETS];
+    if let Some(status) = status {
+        let frames = status.received_frames.iter().rev();
+        let map = frames.fold(0u32, |map, received| map << 1 | u32::from(*received));
+        octets[..2].copy_from_slice(&[1, status.partial_echo]);
+        octets[2..].copy_from_slice(&map.to_be_bytes());
+    }
+    octets
+}
+fn mode_octet(mode: ResponseMode) -> u8 {
+    u8::from(mode == ResponseMode::Reservation)
 }
 
 /// `None` if the Rust type cannot hold the pair.
