@@ -1,0 +1,45 @@
+-- `listing::show::read_some` meets its contract. Assumes nothing.
+use mathlib.Core.Path.{_≡_, sym}
+use native.Mathlib.Omega.{arith}
+use lib.ListN.{length, take, length-append}
+use lib.Seq.{length-take-le}
+use Rattle.io.proofs.Counting.{counts}
+use borrow.Author.Needs.{needs}
+use Rattle.listing.proofs.show.read_some.Statement.{statement}
+use Rattle.listing.proofs.show.read_some.Tie as tie
+
+least-requires : tie.Need-least-requires
+least-requires c κs = search needs
+
+slice-relend-prefix-read-full : tie.Need-slice-relend-prefix-read-full
+slice-relend-prefix-read-full c = search needs
+
+slice-aggregate-read-full : tie.Need-slice-aggregate-read-full
+slice-aggregate-read-full c =
+    sym (length-take-le _ (c .before .before .before .args .room .now) (omega (arith, c .before .least .ensures .1)))
+
+read-full-requires : tie.Need-read-full-requires
+read-full-requires c κs = search needs
+
+same-length : tie.Need-same-length
+same-length c = search needs
+
+returns : tie.Need-returns
+returns c =
+    let a = c .before .before .before .before .before .before .args in
+    let want = c .before .before .before .before .least in
+    let got = c .before .before .read-full in
+    let size : length (got .last .1 .0) ≡ length (take (want .result) (a .room .now)) = search needs in
+    let part = length-take-le (want .result) (a .room .now) (omega (arith, want .ensures .1)) in
+    (counts _ _ (simp length-append (omega (arith, got .ensures .0))), omega (arith, got .ensures .0, want .ensures .0))
+
+pub read-some-spec : {M : Type 1} → statement M
+read-some-spec =
+    tie.close
+    (tie.spec
+    least-requires
+    slice-relend-prefix-read-full
+    slice-aggregate-read-full
+    read-full-requires
+    same-length
+    returns)

@@ -1,0 +1,97 @@
+// Lists what stands on standard input, a chunk at a time.
+use super::Session;
+use super::last::put_last;
+use libc::STDIN_FILENO;
+use libc::STDOUT_FILENO;
+use receiver::ArqReassembler;
+use spach::Verdict;
+ghost use mathlib.Core.Path.{_≡_};
+ghost use mathlib.Core.Bool.{true};
+ghost use Prim.Native.Nat.{_≤_, _<_};
+ghost use Rattle.io.specs.Counts.{Counts};
+ghost use Rattle.receiver.specs.Valid.{Valid};
+ghost use Rattle.listing.specs.Session.{Read};
+
+// What a chunk came to: the session, how many octets are left to read, how many of the chunk are a cut frame, and whether
+// the input may go on.
+struct Turn {
+    pub session: Session,
+    pub left: u64,
+    pub cut: usize,
+    pub more: bool,
+}
+
+fn least(a: u64, b: u64) -> u64
+    ensures { λ r. ⌜ (r ≤ a) × (r ≤ b) ⌝ }
+{
+    if a < b { a } else { b }
+}
+
+// Reads until the room is full, `left` octets are read or the input ends.
+fn read_some(room: &mut [u8], left: u64) -> usize
+    ensures { λ r. ⌜ Counts r (now (room .exit)) × (r ≤ left) ⌝ }
+{
+    let want = least(left, room.len() as u64) as usize;
+    io::read_full(STDIN_FILENO, &mut room[..want])
+}
+
+// Reads 64 frames, or what is left, and prints their lines.
+fn show_chunk(session: Session, left: u64) -> Turn
+    requires { ⌜ Read session left ⌝ }
+    ensures { λ r. ⌜ Read (r .session) (r .left) × (r .more ≡ true → r .left < left) ⌝ }
+{
+    let mut input = [0u8; 896];
+    let n = read_some(&mut input, left);
+    let mut text = [0u8; 38400];
+    let shown = super::show_frames(session, &input[..n], &mut text);
+    let end = shown.end;
+    io::write_all(STDOUT_FILENO, &text[..end]);
+    let next = shown.session;
+    Turn {
+        session: next,
+        left: left - n as u64,
+        cut: n % 14,
+        more: n == 896,
+    }
+}
+
+// Prints the lines after the header.
+fn show_all(receiver: ArqReassembler, limit: u64) -> u64
+    requires { ⌜ Valid receiver ⌝ }
+{
+    let mut t = Turn {
+        session: Session {
+            receiver: receiver,
+            frames: 0,
+            messages: 0,
+        },
+        left: limit,
+        cut: 0,
+        more: true,
+    };
+    while t.more {
+        let session = t.session;
+        t = show_chunk(session, t.left);
+    }
+    let mut text = [0u8; 55];
+    let session = t.session;
+    let end = put_last(&mut text, session, t.cut as u64);
+    io::write_all(STDOUT_FILENO, &text[..end]);
+    t.left
+}
+
+// Lists an input of at most `limit` octets. Answers how many of them were not read.
+pub fn show(limit: u64) -> u64 {
+    let mut octets = [0u8; 9];
+    let n = read_some(&mut octets, limit);
+    let made = super::open(&octets[..n]);
+    let left = limit - n as u64;
+    let verdict = made.verdict;
+    if let Verdict::Refused(_) = verdict {
+        io::write_all(STDOUT_FILENO, b"identity\n");
+        return left;
+    }
+    io::write_all(STDOUT_FILENO, b"frame answer echo map text\n");
+    let receiver = made.receiver;
+    show_all(receiver, left)
+}
