@@ -2,3 +2,4 @@ pub mod Texts
 pub mod Lines
 pub mod Opened
 pub mod Sessions
+pub mod Samples

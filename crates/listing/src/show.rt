@@ -95,3 +95,14 @@ pub fn show(limit: u64) -> u64 {
     let receiver = made.receiver;
     show_all(receiver, left)
 }
+
+// Reads on and prints nothing, until `left` octets are read or the input ends.
+pub fn skip(left: u64) {
+    let mut rest = left;
+    let mut room = [0u8; 64];
+    let mut n = read_some(&mut room, rest);
+    while n > 0 {
+        rest -= n as u64;
+        n = read_some(&mut room, rest);
+    }
+}
