@@ -24,7 +24,6 @@ use Rattle.receiver.specs.declared.ArqReassembler.{ArqReassembler}
 use Rattle.receiver.specs.declared.Made.{Made}
 use Rattle.receiver.specs.declared.ArqStatus.{ArqStatus}
 use Rattle.receiver.specs.declared.SingleMessage.{SingleMessage}
-use Rattle.receiver.specs.declared.Delivery.{Delivery}
 use Rattle.receiver.specs.declared.Delivery.the-variants as deliveries
 use Rattle.receiver.specs.declared.StatusAnswer.{StatusAnswer}
 use Rattle.receiver.specs.declared.StatusAnswer.the-variants as statuses

@@ -4,7 +4,7 @@ use mathlib.Core.Bool.{cond}
 use Prim.Native.Nat.{ℕ}
 use lib.Dec.{eqb}
 use Rattle.spach.specs.declared.SpachError.{SpachError}
-use Rattle.spach.specs.declared.SpachError.the-variants.{Length, Identity, UnsupportedUsage, UnsupportedFrame, Encrypted, Reserved, Filler, PartialEcho, FrameNumber, Payload, DuplicateConflict, Padding, Room}
+use Rattle.spach.specs.declared.SpachError.the-variants.{Length, Identity, UnsupportedUsage, UnsupportedFrame, Encrypted, Reserved, Filler, PartialEcho, FrameNumber, Payload, DuplicateConflict, Padding, Room, Tokens}
 use Rattle.spach.specs.declared.Channel.{Channel}
 use Rattle.spach.specs.declared.Channel.the-variants.{Arch, Smsch, Pch}
 use Rattle.spach.specs.declared.Address.{Address}
@@ -40,7 +40,8 @@ errorOf n =
     (cond (eqb n 12) FrameNumber
     (cond (eqb n 13) Payload
     (cond (eqb n 14) DuplicateConflict
-    (cond (eqb n 15) Padding Room)))))))))))
+    (cond (eqb n 15) Padding
+    (cond (eqb n 16) Room Tokens))))))))))))
 
 pub error-number : (e : SpachError) → errorOf (numberOf e) ≡ e
 error-number Length = refl
@@ -56,6 +57,7 @@ error-number Payload = refl
 error-number DuplicateConflict = refl
 error-number Padding = refl
 error-number Room = refl
+error-number Tokens = refl
 
 pub numbers-apart : (a b : SpachError) → numberOf a ≡ numberOf b → a ≡ b
 numbers-apart = apart numberOf errorOf error-number

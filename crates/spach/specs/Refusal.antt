@@ -2,11 +2,11 @@
 use mathlib.Core.Bool.{Bool, true, false}
 use Prim.Native.Nat.{ℕ}
 use Rattle.spach.specs.declared.SpachError.{SpachError}
-use Rattle.spach.specs.declared.SpachError.the-variants.{Length, Identity, UnsupportedUsage, UnsupportedFrame, Encrypted, Reserved, Filler, PartialEcho, FrameNumber, Payload, DuplicateConflict, Padding, Room}
+use Rattle.spach.specs.declared.SpachError.the-variants.{Length, Identity, UnsupportedUsage, UnsupportedFrame, Encrypted, Reserved, Filler, PartialEcho, FrameNumber, Payload, DuplicateConflict, Padding, Room, Tokens}
 use Rattle.spach.specs.declared.Verdict.{Verdict}
 use Rattle.spach.specs.declared.Verdict.the-variants.{Accepted, Refused}
 
--- SpachError's numbers; Padding and Room are added to the Rust's
+-- SpachError's numbers; Padding, Room and Tokens are added to the Rust's
 abbrev pub numberOf : SpachError → ℕ
 numberOf Length = 1
 numberOf Identity = 2
@@ -21,6 +21,7 @@ numberOf Payload = 13
 numberOf DuplicateConflict = 14
 numberOf Padding = 15
 numberOf Room = 16
+numberOf Tokens = 18
 
 -- what a call comes to: a value, or a refusal by its number
 pub data Outcome (A : Type 0) : Type 0 where
@@ -46,3 +47,13 @@ verdictOf (Refused e) = refuses (numberOf e)
 abbrev pub answered : {A : Type 0} → A → Outcome A → Outcome Unit × A
 answered blank (gives a) = (gives tt, a)
 answered blank (refuses n) = (refuses n, blank)
+
+-- what a call leaves: its outcome, and the state afterwards
+pub record After (A S : Type 0) : Type 0 where
+  pub outcome : Outcome A
+  pub state : S
+
+-- a refusal leaves the state s as it was; else the call goes on with the state that was let through
+abbrev pub onward : {A S : Type 0} → S → Outcome S → (S → After A S) → After A S
+onward s (gives t) f = f t
+onward s (refuses n) f = record { outcome = refuses n; state = s }

@@ -7,7 +7,7 @@ ghost use Rattle.spach.specs.Refusal.{numberOf, verdictOf};
 ghost use Rattle.spach.specs.Identity.{identityAnswer, checkIdentity, acceptIdentity};
 ghost use Rattle.spach.specs.Header.{usageOf, channelAnswer, channelOf, headerAAnswer, headerAAt, addressAnswer, identityAt, addressAt};
 
-// Why a frame, a message or a call is refused. Padding and Room are added to the Rust's.
+// Why a frame, a message or a call is refused. Padding, Room and Tokens are added to the Rust's.
 pub enum SpachError {
     Length,
     Identity,
@@ -22,6 +22,7 @@ pub enum SpachError {
     DuplicateConflict,
     Padding,
     Room,
+    Tokens,
 }
 
 impl SpachError {
@@ -43,6 +44,7 @@ impl SpachError {
             SpachError::DuplicateConflict => 14,
             SpachError::Padding => 15,
             SpachError::Room => 16,
+            SpachError::Tokens => 18,
         }
     }
 }

@@ -1,0 +1,54 @@
+-- `inactivity::ArqInactivity::solicited_at` meets its contract. Assumes nothing.
+use borrow.Author.Needs.{needs}
+use mathlib.Core.Path.{sym, _∙_}
+use Rattle.inactivity.proofs.ArqInactivity.solicited_at.Statement.{statement}
+use Rattle.inactivity.proofs.ArqInactivity.solicited_at.Tie as tie
+
+is-idle-requires : tie.Need-is-idle-requires
+is-idle-requires c κs = search needs
+
+turned-requires : tie.Need-turned-requires
+turned-requires c κs = search needs
+
+returns : tie.Need-returns
+returns c = c .turned .ensures ∙ sym (rw (← c .before .before .is-idle .ensures, c .before .if1 .taken))
+
+enum-told : tie.Need-enum-told
+enum-told c = search needs
+
+wait-requires : tie.Need-wait-requires
+wait-requires c κs = search needs
+
+turned-requires-2 : tie.Need-turned-requires-2
+turned-requires-2 c κs = search needs
+
+enum-told-2 : tie.Need-enum-told-2
+enum-told-2 c = search needs
+
+renew-requires : tie.Need-renew-requires
+renew-requires c κs = search needs
+
+turned-requires-3 : tie.Need-turned-requires-3
+turned-requires-3 c κs = search needs
+
+returns-2 : tie.Need-returns-2
+returns-2 c = rw (c .turned2 .ensures, c .before .wait .ensures, c .before .before .enum-told .given .1, ← c .before .before .before .before .before .is-idle .ensures, c .before .before .before .before .if1 .left)
+
+returns-3 : tie.Need-returns-3
+returns-3 c = rw (c .turned3 .ensures, c .before .renew .ensures, c .before .before .enum-told2 .given .1, ← c .before .before .before .before .before .is-idle .ensures, c .before .before .before .before .if1 .left)
+
+pub solicited-at-spec : {M : Type 1} → statement M
+solicited-at-spec =
+    tie.close
+    (tie.spec
+    is-idle-requires
+    turned-requires
+    returns
+    enum-told
+    wait-requires
+    turned-requires-2
+    enum-told-2
+    renew-requires
+    turned-requires-3
+    returns-2
+    returns-3)
