@@ -1,0 +1,230 @@
+-- 01, module 5: ArqProcedure, in the order of the Rust. What each call answers, and the procedure and the buffer that it
+-- leaves. Assumes nothing.
+use mathlib.Core.Path.{_≡_}
+use mathlib.Core.Bool.{Bool, true, false, cond}
+use mathlib.Core.List.{List}
+use Prim.Native.Nat.{ℕ}
+use lib.Dec.{ltb}
+use lib.ListN.{length}
+use Rattle.token.specs.Token.{fewerThan}
+use Rattle.rach.specs.declared.MobileIdentity.{MobileIdentity}
+use Rattle.spach.specs.Refusal.{Outcome, gives, refuses, refuse, andThen, verdictOf, After, onward}
+use Rattle.arq.specs.declared.ArqFrame.{ArqFrame}
+use Rattle.arq.specs.declared.ResponseMode.the-variants.{Contention}
+use Rattle.arq.specs.Encode.{byKind}
+use Rattle.arq.specs.Decode.{decodeOf}
+use Rattle.receiver.specs.declared.ArqReassembler.{ArqReassembler}
+use Rattle.receiver.specs.declared.Delivery.{Delivery}
+use Rattle.receiver.specs.declared.Request.{Request}
+use Rattle.receiver.specs.declared.Request.the-variants as requests
+use Rattle.receiver.specs.declared.Reception.{Reception}
+use Rattle.receiver.specs.declared.Reception.the-variants as receptions
+use Rattle.receiver.specs.Receiver as R
+use Rattle.receiver.specs.Receiver.{pushFrame, statusOf, completeOf, blankReceiver}
+use Rattle.receiver.specs.Valid.{Valid}
+use Rattle.inactivity.specs.declared.ArqInactivity.{ArqInactivity}
+use Rattle.inactivity.specs.declared.StatusResult.{StatusResult}
+use Rattle.inactivity.specs.declared.StatusResult.the-variants as results
+use Rattle.inactivity.specs.declared.InactivityAction.{InactivityAction}
+use Rattle.inactivity.specs.declared.InactivityAction.the-variants as actions
+use Rattle.inactivity.specs.declared.Turn.{Turn}
+use Rattle.inactivity.specs.Inactivity as I
+use Rattle.inactivity.specs.Inactivity.{ownsOf, renewed, waiting, admitted, dueOf, solicitedAt, unsolicitedAt, isIdle, refusalOf}
+use Rattle.procedure.specs.declared.StatusKind.{StatusKind}
+use Rattle.procedure.specs.declared.StatusKind.the-variants.{Solicited, Unsolicited}
+use Rattle.procedure.specs.declared.StatusTransmission.{StatusTransmission}
+use Rattle.procedure.specs.declared.Transmission.{Transmission}
+use Rattle.procedure.specs.declared.Transmission.the-variants as transmissions
+use Rattle.procedure.specs.declared.ReceiveEvent.{ReceiveEvent}
+use Rattle.procedure.specs.declared.ReceiveEvent.the-variants as receives
+use Rattle.procedure.specs.declared.TimerEvent.{TimerEvent}
+use Rattle.procedure.specs.declared.TimerEvent.the-variants.{None, SendStatus, Terminated}
+use Rattle.procedure.specs.declared.SendEvent.{SendEvent}
+use Rattle.procedure.specs.declared.SendEvent.the-variants as sends
+use Rattle.procedure.specs.declared.ArqProcedure.{ArqProcedure}
+use Rattle.procedure.specs.declared.Made.{Made}
+use Rattle.procedure.specs.declared.Reset.{Reset}
+use Rattle.procedure.specs.declared.ReceiveAnswer.{ReceiveAnswer}
+use Rattle.procedure.specs.declared.ReceiveAnswer.the-variants as receiveAnswers
+use Rattle.procedure.specs.declared.Received.{Received}
+use Rattle.procedure.specs.declared.TimerAnswer.{TimerAnswer}
+use Rattle.procedure.specs.declared.TimerAnswer.the-variants as timerAnswers
+use Rattle.procedure.specs.declared.Advanced.{Advanced}
+use Rattle.procedure.specs.declared.SendAnswer.{SendAnswer}
+use Rattle.procedure.specs.declared.SendAnswer.the-variants as sendAnswers
+use Rattle.procedure.specs.declared.Sent.{Sent}
+
+-- ---- the state
+
+-- made with a bad identity: 2
+unfoldable pub newOf : MobileIdentity → ℕ → Outcome ArqProcedure
+newOf i first = andThen (R.newOf i) (λ r. gives (record { receiver = r; inactivity = I.newOf first }))
+
+-- the blank procedure, which stands beside that refusal
+abbrev pub blankProcedure : ArqProcedure
+blankProcedure = record { receiver = blankReceiver; inactivity = I.newOf 0 }
+
+-- with another timer
+abbrev pub withTimer : ArqProcedure → ArqInactivity → ArqProcedure
+withTimer p t = record { receiver = p .receiver; inactivity = t }
+
+-- reset as the Rust has it, inner resets too: nothing is held, and the timer is idle under the next token
+abbrev pub ended : ArqProcedure → ArqProcedure
+ended p = record { receiver = R.resetOf (p .receiver); inactivity = renewed (p .inactivity) }
+
+-- 18, then 17; then the clock is moved
+abbrev pub admits : ArqProcedure → ℕ → Outcome ArqProcedure
+admits p b = andThen (admitted (p .inactivity) b) (λ t. gives (withTimer p t))
+
+-- an event, and the procedure beside it
+abbrev pub says : {A : Type 0} → A → ArqProcedure → After A ArqProcedure
+says e p = record { outcome = gives e; state = p }
+
+-- fewer than 4 tokens left: 18
+unfoldable pub resetOf : ArqProcedure → After Unit ArqProcedure
+resetOf p = onward p (refuse (fewerThan 4 (p .inactivity .«next_token»)) 18 (gives p)) (λ q. says tt (ended q))
+
+-- a transaction is held
+abbrev pub activeOf : ArqProcedure → Bool
+activeOf p = p .receiver .transaction .held
+
+-- ---- receive
+
+-- what a receive leaves: the outcome, the procedure, the lent buffer
+pub record Out : Type 0 where
+  pub outcome : Outcome ReceiveEvent
+  pub procedure : ArqProcedure
+  pub buffer : List ℕ
+
+-- a refusal changes nothing but a clock that was accepted before it
+abbrev pub refusal : ℕ → ArqProcedure → List ℕ → Out
+refusal n p b = record { outcome = refuses n; procedure = p; buffer = b }
+
+-- the timer after an accepted frame: a Begin resets it; while the message is not complete it waits from this block on
+abbrev pub timed : Bool → Bool → ArqInactivity → ArqInactivity
+timed begin complete t = let u = cond begin (renewed t) t in cond complete u (waiting u)
+
+-- the status that a polled frame asks for, under the timer's token
+abbrev pub polled : Request → ArqInactivity → Bool → Transmission
+polled requests.Nothing t complete = transmissions.Nothing
+polled (requests.Status r) t complete = transmissions.Status (record { request = r; token = t .transaction; kind = Solicited; «complete_at_poll» = complete })
+
+-- a complete message whose frame was not polled ends the transaction
+abbrev pub rests : Request → Bool → ArqProcedure → ArqProcedure
+rests requests.Nothing complete p = cond complete (ended p) p
+rests (requests.Status r) complete p = p
+
+-- a frame that the receiver accepted: `begin` if it is a Begin
+unfoldable pub accepted : Bool → Delivery → Request → ArqProcedure → After ReceiveEvent ArqProcedure
+accepted begin m r p =
+    let complete = completeOf (p .receiver) in
+    let t = timed begin complete (p .inactivity) in
+    says (receives.Accepted m (polled r t complete)) (rests r complete (withTimer p t))
+
+-- by what the receiver says of it
+abbrev pub heard : Bool → Reception → ArqProcedure → After ReceiveEvent ArqProcedure
+heard begin receptions.Ignored p = says receives.Ignored p
+heard begin (receptions.Accepted m r) p = accepted begin m r p
+
+-- the receiver's outcome, state and buffer: a refusal of the frame leaves it as it was
+abbrev pub pushes : Bool → ArqInactivity → R.Out → Out
+pushes begin t o = told (o .outcome)
+  where
+    p : ArqProcedure
+    p = record { receiver = o .receiver; inactivity = t }
+
+    told : Outcome Reception → Out
+    told (gives r) = record { outcome = heard begin r p .outcome; procedure = heard begin r p .state; buffer = o .buffer }
+    told (refuses n) = refusal n p (o .buffer)
+
+-- decode's refusals; then as above
+abbrev pub decoded : ArqProcedure → List ℕ → Outcome ArqFrame → Out
+decoded p buffer (gives f) = pushes (byKind (f .kind) true false) (p .inactivity) (pushFrame (p .receiver) buffer f)
+decoded p buffer (refuses n) = refusal n p buffer
+
+-- fewer than 4 tokens left 18; buffer under 255 octets 16; the clock gone back 17; push's, at the moved clock
+unfoldable pub receiveOf : ArqProcedure → ℕ → List ℕ → List ℕ → Out
+receiveOf p b xs buffer =
+    cond (fewerThan 4 (p .inactivity .«next_token»)) (refusal 18 p buffer)
+    (cond (ltb (length buffer) 255) (refusal 16 p buffer)
+    (cond (ltb b (p .inactivity .«last_block»)) (refusal 17 p buffer)
+    (decoded (withTimer p (I.clocked (p .inactivity) b)) buffer (decodeOf xs))))
+
+-- ---- advance
+
+-- an unsolicited status: echo and map that are held, by contention
+abbrev pub unsolicited : ArqProcedure → StatusTransmission
+unsolicited p =
+    record {
+      request = record { status = statusOf (p .receiver); «response_mode» = Contention };
+      token = p .inactivity .transaction;
+      kind = Unsolicited;
+      «complete_at_poll» = false;
+    }
+
+-- what the timer's action comes to
+abbrev pub follows : InactivityAction → ArqProcedure → After TimerEvent ArqProcedure
+follows actions.None p = says None p
+follows actions.RequestUnsolicitedStatus p = says (SendStatus (unsolicited p)) p
+follows actions.Terminate p = says Terminated (ended p)
+
+-- what is due at the clock's block; a complete message waits for its status alone
+abbrev pub dueAt : ArqProcedure → After TimerEvent ArqProcedure
+dueAt p = let d = dueOf (p .inactivity) in cond (completeOf (p .receiver)) (says None p) (follows (d .action) (withTimer p (d .timer)))
+
+unfoldable pub advanceOf : ArqProcedure → ℕ → After TimerEvent ArqProcedure
+advanceOf p b = onward p (admits p b) dueAt
+
+-- ---- status_sent
+
+-- the timer after a status of a kind was sent
+abbrev pub reported : StatusKind → ArqInactivity → ArqInactivity
+reported Solicited t = solicitedAt results.Sent t .timer
+reported Unsolicited t = unsolicitedAt results.Sent t .timer
+
+-- at the moved clock
+abbrev pub sentAt : StatusTransmission → StatusResult → ArqProcedure → After SendEvent ArqProcedure
+sentAt x results.Sent p = cond (x .«complete_at_poll») (says sends.Complete (ended p)) (says sends.Pending (withTimer p (reported (x .kind) (p .inactivity))))
+sentAt x results.Failed p = says sends.Failed (ended p)
+
+-- a foreign token is Ignored first; then 18, then 17
+unfoldable pub statusSentOf : ArqProcedure → ℕ → StatusTransmission → StatusResult → After SendEvent ArqProcedure
+statusSentOf p b x r = cond (ownsOf (p .inactivity) (x .token)) (onward p (admits p b) (sentAt x r)) (says sends.Ignored p)
+
+-- ---- answers by 01's numbers
+
+abbrev pub madeAnswer : Made → Outcome Unit × ArqProcedure
+madeAnswer r = (verdictOf (r .verdict), r .procedure)
+
+abbrev pub hasReset : Reset → After Unit ArqProcedure
+hasReset r = record { outcome = verdictOf (r .verdict); state = r .procedure }
+
+abbrev pub receiveAnswer : ReceiveAnswer → Outcome ReceiveEvent
+receiveAnswer (receiveAnswers.Event e) = gives e
+receiveAnswer (receiveAnswers.Refused e) = refuses (refusalOf e)
+
+abbrev pub received : Received → List ℕ → Out
+received r b = record { outcome = receiveAnswer (r .answer); procedure = r .procedure; buffer = b }
+
+abbrev pub timerAnswer : TimerAnswer → Outcome TimerEvent
+timerAnswer (timerAnswers.Event e) = gives e
+timerAnswer (timerAnswers.Refused e) = refuses (refusalOf e)
+
+abbrev pub advanced : Advanced → After TimerEvent ArqProcedure
+advanced r = record { outcome = timerAnswer (r .answer); state = r .procedure }
+
+abbrev pub sendAnswer : SendAnswer → Outcome SendEvent
+sendAnswer (sendAnswers.Event e) = gives e
+sendAnswer (sendAnswers.Refused e) = refuses (refusalOf e)
+
+abbrev pub sent : Sent → After SendEvent ArqProcedure
+sent r = record { outcome = sendAnswer (r .answer); state = r .procedure }
+
+-- ---- the invariant
+
+-- what every procedure is that the constructor and the calls make
+pub record Sound (p : ArqProcedure) : Type 0 where
+  pub receiver : Valid (p .receiver)
+  pub inactivity : I.Sound (p .inactivity)
+  -- the timer is armed only for an active transaction: so there is a status to send
+  pub armed : isIdle (p .inactivity .state) ≡ false → activeOf p ≡ true
