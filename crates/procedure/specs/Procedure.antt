@@ -29,7 +29,7 @@ use Rattle.inactivity.specs.declared.InactivityAction.{InactivityAction}
 use Rattle.inactivity.specs.declared.InactivityAction.the-variants as actions
 use Rattle.inactivity.specs.declared.Turn.{Turn}
 use Rattle.inactivity.specs.Inactivity as I
-use Rattle.inactivity.specs.Inactivity.{ownsOf, renewed, waiting, admitted, dueOf, solicitedAt, unsolicitedAt, isIdle, refusalOf}
+use Rattle.inactivity.specs.Inactivity.{ownsOf, renewed, waiting, ticked, admitted, dueOf, solicitedAt, unsolicitedAt, isIdle, refusalOf}
 use Rattle.procedure.specs.declared.StatusKind.{StatusKind}
 use Rattle.procedure.specs.declared.StatusKind.the-variants.{Solicited, Unsolicited}
 use Rattle.procedure.specs.declared.StatusTransmission.{StatusTransmission}
@@ -96,13 +96,13 @@ pub record Out : Type 0 where
   pub procedure : ArqProcedure
   pub buffer : List ℕ
 
--- a refusal changes nothing but a clock that was accepted before it
-abbrev pub refusal : ℕ → ArqProcedure → List ℕ → Out
-refusal n p b = record { outcome = refuses n; procedure = p; buffer = b }
+-- a Begin resets the timer
+abbrev pub begun : Bool → ArqInactivity → ArqInactivity
+begun begin t = cond begin (renewed t) t
 
--- the timer after an accepted frame: a Begin resets it; while the message is not complete it waits from this block on
+-- while the message is not complete it waits from this block on
 abbrev pub timed : Bool → Bool → ArqInactivity → ArqInactivity
-timed begin complete t = let u = cond begin (renewed t) t in cond complete u (waiting u)
+timed begin complete t = cond complete (begun begin t) (waiting (begun begin t))
 
 -- the status that a polled frame asks for, under the timer's token
 abbrev pub polled : Request → ArqInactivity → Bool → Transmission
@@ -126,29 +126,39 @@ abbrev pub heard : Bool → Reception → ArqProcedure → After ReceiveEvent Ar
 heard begin receptions.Ignored p = says receives.Ignored p
 heard begin (receptions.Accepted m r) p = accepted begin m r p
 
--- the receiver's outcome, state and buffer: a refusal of the frame leaves it as it was
-abbrev pub pushes : Bool → ArqInactivity → R.Out → Out
-pushes begin t o = told (o .outcome)
-  where
-    p : ArqProcedure
-    p = record { receiver = o .receiver; inactivity = t }
+-- what a receive leaves, with the buffer
+abbrev pub beside : After ReceiveEvent ArqProcedure → List ℕ → Out
+beside a b = record { outcome = a .outcome; procedure = a .state; buffer = b }
 
-    told : Outcome Reception → Out
-    told (gives r) = record { outcome = heard begin r p .outcome; procedure = heard begin r p .state; buffer = o .buffer }
-    told (refuses n) = refusal n p (o .buffer)
+-- a refusal changes nothing but a clock that was accepted before it
+abbrev pub refusal : ℕ → ArqProcedure → List ℕ → Out
+refusal n p b = record { outcome = refuses n; procedure = p; buffer = b }
 
--- decode's refusals; then as above
+-- the receiver's answer to the frame: a refusal leaves the receiver as it was
+abbrev pub taken : Bool → Outcome Reception → ArqProcedure → List ℕ → Out
+taken begin (gives r) p b = beside (heard begin r p) b
+taken begin (refuses n) p b = refusal n p b
+
+-- a frame that was decoded is pushed
+abbrev pub pushes : ArqProcedure → List ℕ → ArqFrame → Out
+pushes p b f = let o = pushFrame (p .receiver) b f in taken (byKind (f .kind) true false) (o .outcome) (record { receiver = o .receiver; inactivity = p .inactivity }) (o .buffer)
+
+-- decode's refusals come before
 abbrev pub decoded : ArqProcedure → List ℕ → Outcome ArqFrame → Out
-decoded p buffer (gives f) = pushes (byKind (f .kind) true false) (p .inactivity) (pushFrame (p .receiver) buffer f)
-decoded p buffer (refuses n) = refusal n p buffer
+decoded p b (gives f) = pushes p b f
+decoded p b (refuses n) = refusal n p b
 
--- fewer than 4 tokens left 18; buffer under 255 octets 16; the clock gone back 17; push's, at the moved clock
+-- fewer than 4 tokens left 18; room under 255 octets 16; the clock gone back 17; then the clock is moved
+abbrev pub lets : ArqInactivity → ℕ → ℕ → Outcome ArqInactivity
+lets t b room = refuse (fewerThan 4 (t .«next_token»)) 18 (refuse (ltb room 255) 16 (ticked t b))
+
+-- at the moved clock, if it comes to that
+abbrev pub goes : ArqProcedure → List ℕ → List ℕ → Outcome ArqInactivity → Out
+goes p xs b (gives t) = decoded (withTimer p t) b (decodeOf xs)
+goes p xs b (refuses n) = refusal n p b
+
 unfoldable pub receiveOf : ArqProcedure → ℕ → List ℕ → List ℕ → Out
-receiveOf p b xs buffer =
-    cond (fewerThan 4 (p .inactivity .«next_token»)) (refusal 18 p buffer)
-    (cond (ltb (length buffer) 255) (refusal 16 p buffer)
-    (cond (ltb b (p .inactivity .«last_block»)) (refusal 17 p buffer)
-    (decoded (withTimer p (I.clocked (p .inactivity) b)) buffer (decodeOf xs))))
+receiveOf p block xs b = goes p xs b (lets (p .inactivity) block (length b))
 
 -- ---- advance
 
@@ -203,8 +213,11 @@ abbrev pub receiveAnswer : ReceiveAnswer → Outcome ReceiveEvent
 receiveAnswer (receiveAnswers.Event e) = gives e
 receiveAnswer (receiveAnswers.Refused e) = refuses (refusalOf e)
 
+abbrev pub told : Received → After ReceiveEvent ArqProcedure
+told r = record { outcome = receiveAnswer (r .answer); state = r .procedure }
+
 abbrev pub received : Received → List ℕ → Out
-received r b = record { outcome = receiveAnswer (r .answer); procedure = r .procedure; buffer = b }
+received r b = beside (told r) b
 
 abbrev pub timerAnswer : TimerAnswer → Outcome TimerEvent
 timerAnswer (timerAnswers.Event e) = gives e

@@ -201,6 +201,13 @@ module _ (s : ArqReassembler) (f : ArqFrame) (b : List ℕ) where
       P : Out → Type 0
       P o = o .receiver .transaction .«partial_echo» ≡ f .header .«partial_echo»
 
+  -- and a transaction is held
+  pub accepted-held : (g : Delivery) (r : Request) → pushFrame s b f .outcome ≡ gives (Accepted g r) → pushFrame s b f .receiver .transaction .held ≡ true
+  accepted-held g r = accepted-ways g r P (λ c. finish-ways f (begun s f) b P (λ d. refl) (λ d. refl)) (λ c. finish-ways f (stored s f) b P (λ d. c .mine .held) (λ d. c .mine .held))
+    where
+      P : Out → Type 0
+      P o = o .receiver .transaction .held ≡ true
+
   -- ---- what is told
 
   -- "Polled frames answer a status of echo and map": those of the state that the frame leaves, with the frame's own response mode

@@ -18,6 +18,7 @@ use Rattle.spach.specs.declared.Verdict.{Verdict}
 use Rattle.spach.specs.declared.Verdict.the-variants as verdicts
 use Rattle.spach.specs.Refusal.{Outcome, gives, refuses, refuse, numberOf, verdictOf, answered}
 use Rattle.spach.specs.Identity.{checkIdentity}
+use Rattle.spach.proofs.Outcomes.{answered-gives, answered-refuses}
 use Rattle.arq.specs.declared.FrameKind.{FrameKind}
 use Rattle.arq.specs.declared.FrameKind.the-variants.{Begin, Continue}
 use Rattle.arq.specs.declared.ArqFrame.{ArqFrame}
@@ -114,16 +115,8 @@ module _ (s : ArqReassembler) (xs b : List ℕ) {r : Out} where
   module _ (h : 255 ≤ length b) {v : Verdict} {f : ArqFrame} (e : (verdictOf v, f) ≡ answered blankFrame (decodeOf xs)) where
     pub push-refused : {x : SpachError} → v ≡ verdicts.Refused x → r ≡ refusal (numberOf x) s b → r ≡ pushOf s xs b
     unfolding pushOf
-    push-refused {x} ev er = rw (le-ltb (length b) 255 h) (er ∙ sym (go (decodeOf xs) (ap (λ w. (verdictOf w, f)) (sym ev) ∙ e)))
-      where
-        go : (o : Outcome ArqFrame) → (refuses (numberOf x), f) ≡ answered blankFrame o → pushDecoded s b o ≡ refusal (numberOf x) s b
-        go (gives g) q = let v = ap (λ z. z .0) q in let z : _≡_ {A = ℕ} 0 1 = cc in absurd (omega arith)
-        go (refuses n) q = let v = ap (λ z. z .0) q in let w : n ≡ numberOf x = cc in rw w
+    push-refused ev er = rw (le-ltb (length b) 255 h) (er ∙ sym (ap (pushDecoded s b) (answered-refuses blankFrame (decodeOf xs) e ev .0)))
 
     pub push-heard : v ≡ verdicts.Accepted → r ≡ pushFrame s b f → r ≡ pushOf s xs b
     unfolding pushOf
-    push-heard ev er = rw (le-ltb (length b) 255 h) (er ∙ sym (go (decodeOf xs) (ap (λ w. (verdictOf w, f)) (sym ev) ∙ e)))
-      where
-        go : (o : Outcome ArqFrame) → (gives (tt {0}), f) ≡ answered blankFrame o → pushDecoded s b o ≡ pushFrame s b f
-        go (gives g) q = ap (pushFrame s b) (sym (ap (λ z. z .1) q))
-        go (refuses n) q = let v = ap (λ z. z .0) q in let z : _≡_ {A = ℕ} 0 1 = cc in absurd (omega arith)
+    push-heard ev er = rw (le-ltb (length b) 255 h) (er ∙ sym (ap (pushDecoded s b) (answered-gives blankFrame (decodeOf xs) e ev)))

@@ -1,0 +1,221 @@
+-- Each call of the procedure keeps the invariant. Assumes nothing.
+use mathlib.Core.Path.{_≡_, refl, sym, ap, subst, _∙_}
+use mathlib.Core.Bool.{Bool, true, false, cond, not, _&&_}
+use mathlib.Core.List.{List}
+use Prim.Native.Nat.{ℕ, _≤_}
+use native.Mathlib.Omega.{arith}
+use lib.Dec.{ltb}
+use lib.ListN.{length}
+use borrow.Author.Tests.{ltb-false}
+use Rattle.token.specs.Token.{fewerThan}
+use Rattle.rach.specs.declared.MobileIdentity.{MobileIdentity}
+use Rattle.spach.specs.Refusal.{Outcome, gives, refuses, refuse, andThen, After, onward}
+use Rattle.spach.proofs.Outcomes.{passed, then-gives}
+use Rattle.arq.specs.declared.ArqFrame.{ArqFrame}
+use Rattle.arq.specs.Encode.{byKind}
+use Rattle.arq.specs.Decode.{decodeOf}
+use Rattle.receiver.specs.declared.ArqReassembler.{ArqReassembler}
+use Rattle.receiver.specs.declared.Delivery.{Delivery}
+use Rattle.receiver.specs.declared.Request.{Request}
+use Rattle.receiver.specs.declared.Request.the-variants as requests
+use Rattle.receiver.specs.declared.Reception.{Reception}
+use Rattle.receiver.specs.declared.Reception.the-variants as receptions
+use Rattle.receiver.specs.Receiver as R
+use Rattle.receiver.specs.Receiver.{pushFrame, pushOf, completeOf}
+use Rattle.receiver.specs.Valid.{Valid}
+use Rattle.receiver.proofs.Valid.{valid-new, valid-reset, valid-push}
+use Rattle.receiver.proofs.Laws.{as-decoded, accepted-held, ignored-leaves, refusal-leaves}
+use Rattle.inactivity.specs.declared.ArqInactivity.{ArqInactivity}
+use Rattle.inactivity.specs.declared.State.{State}
+use Rattle.inactivity.specs.declared.State.the-variants.{Idle, Waiting, SendingUnsolicited, FinalWait}
+use Rattle.inactivity.specs.declared.StatusResult.{StatusResult}
+use Rattle.inactivity.specs.declared.StatusResult.the-variants as results
+use Rattle.inactivity.specs.declared.InactivityAction.{InactivityAction}
+use Rattle.inactivity.specs.declared.InactivityAction.the-variants as actions
+use Rattle.inactivity.specs.declared.Turn.{Turn}
+use Rattle.inactivity.specs.Inactivity as I
+use Rattle.inactivity.specs.Inactivity.{ownsOf, renewed, waiting, clocked, ticked, admitted, due, dueOf, elapsed, solicitedAt, unsolicitedAt, isIdle}
+use Rattle.inactivity.proofs.Calls.{ticked-gives, admitted-gives}
+use Rattle.inactivity.proofs.Kept as K
+use Rattle.inactivity.proofs.Kept.{onward-keeps, cond-keeps, sound-admitted}
+use Rattle.procedure.specs.declared.StatusKind.{StatusKind}
+use Rattle.procedure.specs.declared.StatusKind.the-variants.{Solicited, Unsolicited}
+use Rattle.procedure.specs.declared.StatusTransmission.{StatusTransmission}
+use Rattle.procedure.specs.declared.ReceiveEvent.{ReceiveEvent}
+use Rattle.procedure.specs.declared.TimerEvent.{TimerEvent}
+use Rattle.procedure.specs.declared.SendEvent.{SendEvent}
+use Rattle.procedure.specs.declared.ArqProcedure.{ArqProcedure}
+use Rattle.procedure.specs.Procedure.{Sound, newOf, withTimer, ended, admits, says, resetOf, activeOf, Out, begun, timed, rests, accepted, heard, beside, refusal, taken, pushes, decoded, lets, goes, receiveOf, follows, dueAt, advanceOf, reported, sentAt, statusSentOf}
+
+true-false : {x : Bool} → x ≡ true → x ≡ false → ⊥
+true-false p q = let z : true ≡ false = sym p ∙ q in let w : _≡_ {A = ℕ} 0 1 = cc in absurd (omega arith)
+
+-- a procedure that holds a transaction may have any timer
+active-sound : (p : ArqProcedure) → Valid (p .receiver) → I.Sound (p .inactivity) → activeOf p ≡ true → Sound p
+active-sound p v s a = record { receiver = v; inactivity = s; armed = λ h. a }
+
+-- reset
+pub sound-ended : (p : ArqProcedure) → Sound p → Sound (ended p)
+sound-ended p s = record { receiver = valid-reset (p .receiver) (s .receiver); inactivity = K.sound-renewed (p .inactivity); armed = λ h. absurd (true-false refl h) }
+
+pub sound-new : (i : MobileIdentity) (first : ℕ) {p : ArqProcedure} → newOf i first ≡ gives p → Sound p
+unfolding newOf
+sound-new i first {p} e =
+    let q = then-gives (R.newOf i) (λ r. gives (record { receiver = r; inactivity = I.newOf first })) e in
+    let z : record { receiver = q .0; inactivity = I.newOf first } ≡ p = let w = q .2 in cc in
+    subst Sound z (record { receiver = valid-new i (q .0) (q .1); inactivity = K.sound-new first; armed = λ h. absurd (true-false refl h) })
+
+-- another timer, which is armed only where the old one was
+sound-timer : (p : ArqProcedure) (t : ArqInactivity) → I.Sound t → (isIdle (t .state) ≡ false → isIdle (p .inactivity .state) ≡ false) → Sound p → Sound (withTimer p t)
+sound-timer p t s k h = record { receiver = h .receiver; inactivity = s; armed = λ i. h .armed (k i) }
+
+-- the moved clock
+sound-ticked : (p : ArqProcedure) (b : ℕ) {t : ArqInactivity} → ticked (p .inactivity) b ≡ gives t → Sound p → Sound (withTimer p t)
+sound-ticked p b {t} e h =
+    let q = ticked-gives (p .inactivity) b e in
+    subst (λ u. Sound (withTimer p u)) (sym (q .0)) (sound-timer p (clocked (p .inactivity) b) (K.sound-clocked (p .inactivity) b (q .1) (h .inactivity)) (λ i. i) h)
+
+pub sound-admits : (p : ArqProcedure) (b : ℕ) {q : ArqProcedure} → admits p b ≡ gives q → Sound p → Sound q
+sound-admits p b {q} e h =
+    let a = then-gives (admitted (p .inactivity) b) (λ t. gives (withTimer p t)) e in
+    let z : withTimer p (a .0) ≡ q = let w = a .2 in cc in
+    subst Sound z (sound-ticked p b (passed (fewerThan 4 (p .inactivity .«next_token»)) 18 (ticked (p .inactivity) b) (a .1) .1) h)
+
+-- a call that goes on at the moved clock
+admits-keeps : {A : Type 0} (p : ArqProcedure) (b : ℕ) (f : ArqProcedure → After A ArqProcedure) → ((q : ArqProcedure) → Sound q → Sound (f q .state)) → Sound p → Sound (onward p (admits p b) f .state)
+admits-keeps p b f k h = onward-keeps Sound p (admits p b) f h (λ q e. k q (sound-admits p b e h))
+
+pub sound-reset : (p : ArqProcedure) → Sound p → Sound (resetOf p .state)
+unfolding resetOf
+sound-reset p h =
+    onward-keeps Sound p (refuse (fewerThan 4 (p .inactivity .«next_token»)) 18 (gives p)) (λ q. says tt (ended q)) h
+    (λ q e. let z : p ≡ q = let w = passed (fewerThan 4 (p .inactivity .«next_token»)) 18 (gives p) e .1 in cc in subst (λ r. Sound (ended r)) z (sound-ended p h))
+
+-- ---- advance
+
+abbrev SoundAfter : {A : Type 0} → After A ArqProcedure → Type 0
+SoundAfter a = Sound (a .state)
+
+-- what is due leaves an idle timer idle
+due-armed : (k : State) (t : ArqInactivity) → t .state ≡ k → isIdle (due k t .timer .state) ≡ false → isIdle (t .state) ≡ false
+due-armed Idle t e h = h
+due-armed (Waiting since) t e h = rw e
+due-armed SendingUnsolicited t e h = h
+due-armed (FinalWait since) t e h = rw e
+
+sound-follows : (a : InactivityAction) (p : ArqProcedure) → Sound p → Sound (follows a p .state)
+sound-follows actions.None p h = h
+sound-follows actions.RequestUnsolicitedStatus p h = h
+sound-follows actions.Terminate p h = sound-ended p h
+
+sound-due-at : (p : ArqProcedure) → Sound p → Sound (dueAt p .state)
+sound-due-at p h =
+    let d = dueOf (p .inactivity) in
+    cond-keeps {X = After TimerEvent ArqProcedure} SoundAfter (completeOf (p .receiver)) _ _ h
+    (sound-follows (d .action) (withTimer p (d .timer)) (sound-timer p (d .timer) (K.sound-due-of (p .inactivity) (h .inactivity)) (due-armed (p .inactivity .state) (p .inactivity) refl) h))
+
+pub sound-advance : (p : ArqProcedure) (b : ℕ) → Sound p → Sound (advanceOf p b .state)
+unfolding advanceOf
+sound-advance p b = admits-keeps p b dueAt sound-due-at
+
+-- ---- status_sent
+
+solicited-armed : (t : ArqInactivity) → isIdle (solicitedAt results.Sent t .timer .state) ≡ false → isIdle (t .state) ≡ false
+solicited-armed t = go (isIdle (t .state)) refl
+  where
+    go : (x : Bool) → isIdle (t .state) ≡ x → isIdle (cond x (I.turn actions.None t) (I.solicitedBy results.Sent t) .timer .state) ≡ false → isIdle (t .state) ≡ false
+    go true e h = h
+    go false e h = e
+
+unsolicited-armed : (t : ArqInactivity) → I.Sound t → isIdle (unsolicitedAt results.Sent t .timer .state) ≡ false → isIdle (t .state) ≡ false
+unsolicited-armed t s = go (t .state) (t .«unsolicited_pending») refl (s .pending)
+  where
+    go : (k : State) (x : Bool) → t .state ≡ k → I.PendingFits k x → isIdle (cond x (I.unsolicitedBy results.Sent t) (I.turn actions.None t) .timer .state) ≡ false → isIdle (t .state) ≡ false
+    go Idle true e f h = absurd (true-false refl f)
+    go Idle false e f h = h
+    go (Waiting since) x e f h = rw e
+    go SendingUnsolicited x e f h = rw e
+    go (FinalWait since) x e f h = rw e
+
+sound-reported : (k : StatusKind) (p : ArqProcedure) → Sound p → Sound (withTimer p (reported k (p .inactivity)))
+sound-reported Solicited p h = sound-timer p _ (K.sound-solicited-at results.Sent (p .inactivity) (h .inactivity)) (solicited-armed (p .inactivity)) h
+sound-reported Unsolicited p h = sound-timer p _ (K.sound-unsolicited-at results.Sent (p .inactivity) (h .inactivity)) (unsolicited-armed (p .inactivity) (h .inactivity)) h
+
+sound-sent-at : (x : StatusTransmission) (r : StatusResult) (p : ArqProcedure) → Sound p → Sound (sentAt x r p .state)
+sound-sent-at x results.Sent p h = cond-keeps {X = After SendEvent ArqProcedure} SoundAfter (x .«complete_at_poll») _ _ (sound-ended p h) (sound-reported (x .kind) p h)
+sound-sent-at x results.Failed p h = sound-ended p h
+
+pub sound-status-sent : (p : ArqProcedure) (b : ℕ) (x : StatusTransmission) (r : StatusResult) → Sound p → Sound (statusSentOf p b x r .state)
+unfolding statusSentOf
+sound-status-sent p b x r h = cond-keeps {X = After SendEvent ArqProcedure} SoundAfter (ownsOf (p .inactivity) (x .token)) _ _ (admits-keeps p b (sentAt x r) (sound-sent-at x r) h) h
+
+-- ---- receive
+
+sound-begun : (begin : Bool) (t : ArqInactivity) → I.Sound t → I.Sound (begun begin t)
+sound-begun true t h = K.sound-renewed t
+sound-begun false t h = h
+
+sound-timed : (begin complete : Bool) (t : ArqInactivity) → I.Sound t → I.Sound (timed begin complete t)
+sound-timed begin true t h = sound-begun begin t h
+sound-timed begin false t h = K.sound-waiting (begun begin t) (sound-begun begin t h)
+
+sound-rests : (r : Request) (complete : Bool) (p : ArqProcedure) → Sound p → Sound (rests r complete p)
+sound-rests requests.Nothing true p h = sound-ended p h
+sound-rests requests.Nothing false p h = h
+sound-rests (requests.Status r) complete p h = h
+
+-- an accepted frame: the receiver holds a transaction
+sound-accepted : (begin : Bool) (m : Delivery) (r : Request) (p : ArqProcedure) → Valid (p .receiver) → I.Sound (p .inactivity) → activeOf p ≡ true → Sound (accepted begin m r p .state)
+unfolding accepted
+sound-accepted begin m r p v s a =
+    let complete = completeOf (p .receiver) in
+    sound-rests r complete _ (active-sound (withTimer p (timed begin complete (p .inactivity))) v (sound-timed begin complete (p .inactivity) s) a)
+
+-- what the receiver answers: it is left as it was unless it accepts the frame, and then it holds a transaction
+sound-taken : (begin : Bool) (x : Outcome Reception) (o : R.Out) (p : ArqProcedure) → o .outcome ≡ x → Valid (o .receiver)
+    → ((m : Delivery) (r : Request) → o .outcome ≡ gives (receptions.Accepted m r) → o .receiver .transaction .held ≡ true)
+    → (o .outcome ≡ gives receptions.Ignored → o .receiver ≡ p .receiver) → ((n : ℕ) → o .outcome ≡ refuses n → o .receiver ≡ p .receiver) → Sound p
+    → Sound (taken begin x (record { receiver = o .receiver; inactivity = p .inactivity }) (o .buffer) .procedure)
+sound-taken begin (gives receptions.Ignored) o p e v held ignores stops h = rw (ignores e) h
+sound-taken begin (gives (receptions.Accepted m r)) o p e v held ignores stops h = sound-accepted begin m r (record { receiver = o .receiver; inactivity = p .inactivity }) v (h .inactivity) (held m r e)
+sound-taken begin (refuses n) o p e v held ignores stops h = rw (stops n e) h
+
+pushed-frame : (s : ArqReassembler) (xs b : List ℕ) (f : ArqFrame) → 255 ≤ length b → decodeOf xs ≡ gives f → pushOf s xs b ≡ pushFrame s b f
+pushed-frame s xs b f l e = as-decoded s xs b l ∙ ap (R.pushDecoded s b) e
+
+sound-pushes : (p : ArqProcedure) (xs b : List ℕ) (f : ArqFrame) → 255 ≤ length b → decodeOf xs ≡ gives f → Sound p → Sound (pushes p b f .procedure)
+sound-pushes p xs b f l e h =
+    let s = p .receiver in
+    let q = pushed-frame s xs b f l e in
+    sound-taken (byKind (f .kind) true false) (pushFrame s b f .outcome) (pushFrame s b f) p refl (subst (λ (o : R.Out). Valid (o .receiver)) q (valid-push s xs b (h .receiver))) (accepted-held s f b)
+    (λ z. subst (λ (o : R.Out). o .receiver ≡ s) q (ignored-leaves s xs b (ap (λ (o : R.Out). o .outcome) q ∙ z) .0))
+    (λ n z. subst (λ (o : R.Out). o .receiver ≡ s) q (refusal-leaves s xs b n (ap (λ (o : R.Out). o .outcome) q ∙ z) .0))
+    h
+
+sound-decoded : (p : ArqProcedure) (xs b : List ℕ) (x : Outcome ArqFrame) → 255 ≤ length b → decodeOf xs ≡ x → Sound p → Sound (decoded p b x .procedure)
+sound-decoded p xs b (gives f) l e h = sound-pushes p xs b f l e h
+sound-decoded p xs b (refuses n) l e h = h
+
+-- what was let through
+pub lets-gives : (t : ArqInactivity) (b room : ℕ) {u : ArqInactivity} → lets t b room ≡ gives u → (255 ≤ room) × (ticked t b ≡ gives u)
+lets-gives t b room e =
+    let p = passed (fewerThan 4 (t .«next_token»)) 18 (refuse (ltb room 255) 16 (ticked t b)) e in
+    let q = passed (ltb room 255) 16 (ticked t b) (p .1) in
+    (ltb-false room 255 (q .0), q .1)
+
+sound-goes : (p : ArqProcedure) (block : ℕ) (xs b : List ℕ) (x : Outcome ArqInactivity) → lets (p .inactivity) block (length b) ≡ x → Sound p → Sound (goes p xs b x .procedure)
+sound-goes p block xs b (gives t) e h =
+    let q = lets-gives (p .inactivity) block (length b) e in
+    sound-decoded (withTimer p t) xs b (decodeOf xs) (q .0) refl (sound-ticked p block (q .1) h)
+sound-goes p block xs b (refuses n) e h = h
+
+pub sound-receive : (p : ArqProcedure) (block : ℕ) (xs b : List ℕ) → Sound p → Sound (receiveOf p block xs b .procedure)
+unfolding receiveOf
+sound-receive p block xs b = sound-goes p block xs b _ refl
+
+-- what equals a definition is as sound as the definition
+pub kept : {A : Type 0} {x y : After A ArqProcedure} → x ≡ y → Sound (y .state) → (x ≡ y) × Sound (x .state)
+kept e h = (e, subst Sound (sym (ap (λ o. o .state) e)) h)
+
+pub kept-out : {x y : Out} → x ≡ y → Sound (y .procedure) → (x ≡ y) × Sound (x .procedure)
+kept-out e h = (e, subst Sound (sym (ap (λ (o : Out). o .procedure) e)) h)
