@@ -1,4 +1,6 @@
 // The inactivity timer of a transaction: 32 blocks to an unsolicited status, 32 more to the end.
+pub mod lent;
+
 use spach::SpachError;
 use spach::Verdict;
 ghost use mathlib.Core.Path.{_≡_};

@@ -9,8 +9,6 @@ use receiver::ArqReassembler;
 use receiver::Delivery;
 use receiver::Made;
 use spach::IdentityAnswer;
-use spach::SpachError;
-use spach::Verdict;
 ghost use mathlib.Core.Path.{_≡_};
 ghost use Prim.Native.Nat.{_+_, _*_, _/_, _≤_, _<_};
 ghost use lib.ListN.{length};

@@ -24,7 +24,6 @@ use Rattle.receiver.specs.Receiver as R
 use Rattle.receiver.specs.Receiver.{pushFrame, blankReceiver}
 use Rattle.inactivity.specs.declared.ArqInactivity.{ArqInactivity}
 use Rattle.inactivity.specs.declared.ProcedureError.{ProcedureError}
-use Rattle.inactivity.specs.declared.ProcedureError.the-variants.{Wire}
 use Rattle.inactivity.specs.declared.Admission.{Admission}
 use Rattle.inactivity.specs.declared.Admission.the-variants.{Admitted, Refused}
 use Rattle.inactivity.specs.declared.StatusResult.{StatusResult}
@@ -36,7 +35,7 @@ use Rattle.procedure.specs.declared.ReceiveEvent.{ReceiveEvent}
 use Rattle.procedure.specs.declared.SendEvent.{SendEvent}
 use Rattle.procedure.specs.declared.SendEvent.the-variants as sends
 use Rattle.procedure.specs.declared.ArqProcedure.{ArqProcedure}
-use Rattle.procedure.specs.Procedure.{Sound, Out, newOf, blankProcedure, withTimer, admits, says, heard, beside, refusal, taken, pushes, decoded, lets, goes, receiveOf, sentAt, statusSentOf, told, received}
+use Rattle.procedure.specs.Procedure.{Sound, Out, newOf, blankProcedure, withTimer, admits, says, heard, beside, taken, pushes, decoded, lets, goes, receiveOf, sentAt, statusSentOf}
 use Rattle.procedure.proofs.Kept.{sound-new}
 
 -- ---- the constructor

@@ -1,6 +1,6 @@
 -- Each call of the procedure keeps the invariant. Assumes nothing.
 use mathlib.Core.Path.{_≡_, refl, sym, ap, subst, _∙_}
-use mathlib.Core.Bool.{Bool, true, false, cond, not, _&&_}
+use mathlib.Core.Bool.{Bool, true, false, cond}
 use mathlib.Core.List.{List}
 use Prim.Native.Nat.{ℕ, _≤_}
 use native.Mathlib.Omega.{arith}
@@ -9,7 +9,7 @@ use lib.ListN.{length}
 use borrow.Author.Tests.{ltb-false}
 use Rattle.token.specs.Token.{fewerThan}
 use Rattle.rach.specs.declared.MobileIdentity.{MobileIdentity}
-use Rattle.spach.specs.Refusal.{Outcome, gives, refuses, refuse, andThen, After, onward}
+use Rattle.spach.specs.Refusal.{Outcome, gives, refuses, refuse, After, onward}
 use Rattle.spach.proofs.Outcomes.{passed, then-gives}
 use Rattle.arq.specs.declared.ArqFrame.{ArqFrame}
 use Rattle.arq.specs.Encode.{byKind}
@@ -32,20 +32,18 @@ use Rattle.inactivity.specs.declared.StatusResult.{StatusResult}
 use Rattle.inactivity.specs.declared.StatusResult.the-variants as results
 use Rattle.inactivity.specs.declared.InactivityAction.{InactivityAction}
 use Rattle.inactivity.specs.declared.InactivityAction.the-variants as actions
-use Rattle.inactivity.specs.declared.Turn.{Turn}
 use Rattle.inactivity.specs.Inactivity as I
-use Rattle.inactivity.specs.Inactivity.{ownsOf, renewed, waiting, clocked, ticked, admitted, due, dueOf, elapsed, solicitedAt, unsolicitedAt, isIdle}
-use Rattle.inactivity.proofs.Calls.{ticked-gives, admitted-gives}
+use Rattle.inactivity.specs.Inactivity.{ownsOf, clocked, ticked, admitted, due, dueOf, solicitedAt, unsolicitedAt, isIdle}
+use Rattle.inactivity.proofs.Calls.{ticked-gives}
 use Rattle.inactivity.proofs.Kept as K
-use Rattle.inactivity.proofs.Kept.{onward-keeps, cond-keeps, sound-admitted}
+use Rattle.inactivity.proofs.Kept.{onward-keeps, cond-keeps}
 use Rattle.procedure.specs.declared.StatusKind.{StatusKind}
 use Rattle.procedure.specs.declared.StatusKind.the-variants.{Solicited, Unsolicited}
 use Rattle.procedure.specs.declared.StatusTransmission.{StatusTransmission}
-use Rattle.procedure.specs.declared.ReceiveEvent.{ReceiveEvent}
 use Rattle.procedure.specs.declared.TimerEvent.{TimerEvent}
 use Rattle.procedure.specs.declared.SendEvent.{SendEvent}
 use Rattle.procedure.specs.declared.ArqProcedure.{ArqProcedure}
-use Rattle.procedure.specs.Procedure.{Sound, newOf, withTimer, ended, admits, says, resetOf, activeOf, Out, begun, timed, rests, accepted, heard, beside, refusal, taken, pushes, decoded, lets, goes, receiveOf, follows, dueAt, advanceOf, reported, sentAt, statusSentOf}
+use Rattle.procedure.specs.Procedure.{Sound, newOf, withTimer, ended, admits, says, resetOf, activeOf, Out, begun, timed, rests, accepted, taken, pushes, decoded, lets, goes, receiveOf, follows, dueAt, advanceOf, reported, sentAt, statusSentOf}
 
 true-false : {x : Bool} → x ≡ true → x ≡ false → ⊥
 true-false p q = let z : true ≡ false = sym p ∙ q in let w : _≡_ {A = ℕ} 0 1 = cc in absurd (omega arith)
@@ -183,13 +181,19 @@ sound-taken begin (refuses n) o p e v held ignores stops h = rw (stops n e) h
 pushed-frame : (s : ArqReassembler) (xs b : List ℕ) (f : ArqFrame) → 255 ≤ length b → decodeOf xs ≡ gives f → pushOf s xs b ≡ pushFrame s b f
 pushed-frame s xs b f l e = as-decoded s xs b l ∙ ap (R.pushDecoded s b) e
 
+-- a frame that is Ignored or refused leaves the receiver
+pub ignored-same : (s : ArqReassembler) (xs b : List ℕ) (f : ArqFrame) → 255 ≤ length b → decodeOf xs ≡ gives f → pushFrame s b f .outcome ≡ gives receptions.Ignored → pushFrame s b f .receiver ≡ s
+ignored-same s xs b f l e z = let q = pushed-frame s xs b f l e in subst (λ (o : R.Out). o .receiver ≡ s) q (ignored-leaves s xs b (ap (λ (o : R.Out). o .outcome) q ∙ z) .0)
+
+pub refused-same : (s : ArqReassembler) (xs b : List ℕ) (f : ArqFrame) (n : ℕ) → 255 ≤ length b → decodeOf xs ≡ gives f → pushFrame s b f .outcome ≡ refuses n → pushFrame s b f .receiver ≡ s
+refused-same s xs b f n l e z = let q = pushed-frame s xs b f l e in subst (λ (o : R.Out). o .receiver ≡ s) q (refusal-leaves s xs b n (ap (λ (o : R.Out). o .outcome) q ∙ z) .0)
+
 sound-pushes : (p : ArqProcedure) (xs b : List ℕ) (f : ArqFrame) → 255 ≤ length b → decodeOf xs ≡ gives f → Sound p → Sound (pushes p b f .procedure)
 sound-pushes p xs b f l e h =
     let s = p .receiver in
     let q = pushed-frame s xs b f l e in
     sound-taken (byKind (f .kind) true false) (pushFrame s b f .outcome) (pushFrame s b f) p refl (subst (λ (o : R.Out). Valid (o .receiver)) q (valid-push s xs b (h .receiver))) (accepted-held s f b)
-    (λ z. subst (λ (o : R.Out). o .receiver ≡ s) q (ignored-leaves s xs b (ap (λ (o : R.Out). o .outcome) q ∙ z) .0))
-    (λ n z. subst (λ (o : R.Out). o .receiver ≡ s) q (refusal-leaves s xs b n (ap (λ (o : R.Out). o .outcome) q ∙ z) .0))
+    (ignored-same s xs b f l e) (λ n. refused-same s xs b f n l e)
     h
 
 sound-decoded : (p : ArqProcedure) (xs b : List ℕ) (x : Outcome ArqFrame) → 255 ≤ length b → decodeOf xs ≡ x → Sound p → Sound (decoded p b x .procedure)

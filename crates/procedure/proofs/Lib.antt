@@ -1,2 +1,7 @@
+pub mod Apart
 pub mod Calls
+pub mod History
 pub mod Kept
+pub mod Laws
+pub mod Steps
+pub mod Ways

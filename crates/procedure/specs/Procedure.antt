@@ -13,7 +13,6 @@ use Rattle.arq.specs.declared.ArqFrame.{ArqFrame}
 use Rattle.arq.specs.declared.ResponseMode.the-variants.{Contention}
 use Rattle.arq.specs.Encode.{byKind}
 use Rattle.arq.specs.Decode.{decodeOf}
-use Rattle.receiver.specs.declared.ArqReassembler.{ArqReassembler}
 use Rattle.receiver.specs.declared.Delivery.{Delivery}
 use Rattle.receiver.specs.declared.Request.{Request}
 use Rattle.receiver.specs.declared.Request.the-variants as requests
@@ -27,7 +26,6 @@ use Rattle.inactivity.specs.declared.StatusResult.{StatusResult}
 use Rattle.inactivity.specs.declared.StatusResult.the-variants as results
 use Rattle.inactivity.specs.declared.InactivityAction.{InactivityAction}
 use Rattle.inactivity.specs.declared.InactivityAction.the-variants as actions
-use Rattle.inactivity.specs.declared.Turn.{Turn}
 use Rattle.inactivity.specs.Inactivity as I
 use Rattle.inactivity.specs.Inactivity.{ownsOf, renewed, waiting, ticked, admitted, dueOf, solicitedAt, unsolicitedAt, isIdle, refusalOf}
 use Rattle.procedure.specs.declared.StatusKind.{StatusKind}

@@ -16,7 +16,7 @@ use Rattle.rach.specs.declared.MobileIdentity.the-variants.{Tmsi20}
 use Rattle.spach.specs.declared.SpachError.{SpachError}
 use Rattle.spach.specs.declared.Verdict.{Verdict}
 use Rattle.spach.specs.declared.Verdict.the-variants as verdicts
-use Rattle.spach.specs.Refusal.{Outcome, gives, refuses, refuse, numberOf, verdictOf, answered}
+use Rattle.spach.specs.Refusal.{gives, refuses, refuse, numberOf, verdictOf, answered}
 use Rattle.spach.specs.Identity.{checkIdentity}
 use Rattle.spach.proofs.Outcomes.{answered-gives, answered-refuses}
 use Rattle.arq.specs.declared.FrameKind.{FrameKind}

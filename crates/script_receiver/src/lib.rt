@@ -8,7 +8,6 @@ use receiver::Pushed;
 use receiver::StatusAnswer;
 use script_leaf::identities::Operand;
 use script_wire::Value;
-use spach::Verdict;
 ghost use Prim.Native.Nat.{_+_, _≤_};
 ghost use lib.ListN.{length};
 ghost use Rattle.script_wire.specs.Answer.{Ready, Answered};
