@@ -3,6 +3,7 @@ use mathlib.Core.Path.{_≡_, sym, ap, _∙_}
 use mathlib.Core.Bool.{Bool, true, false, not}
 use Prim.Native.Nat.{ℕ, _≤_}
 use native.Mathlib.Omega.{arith}
+use lib.Dec.{ltb}
 use borrow.Author.Tests.{ltb-false, not-true, not-false}
 use Rattle.token.specs.Token.{fewerThan}
 use Rattle.spach.specs.Refusal.{Outcome, gives, refuses, After, onward}
@@ -40,8 +41,10 @@ admit-passes s b f p q = passes s f (sym (ap admission q) ∙ p)
 -- what was let through
 pub ticked-gives : (s : ArqInactivity) (b : ℕ) {t : ArqInactivity} → ticked s b ≡ gives t → (t ≡ clocked s b) × (s .«last_block» ≤ b)
 ticked-gives s b {t} e =
-    let p = passed _ 17 (gives (clocked s b)) e in
-    ((let z : clocked s b ≡ t = let w = p .1 in cc in sym z), ltb-false b (s .«last_block») (p .0))
+    let p = passed (ltb b (s .«last_block»)) 17 (gives (clocked s b)) e in
+    let w : gives (clocked s b) ≡ gives t = p .1 in
+    let z : clocked s b ≡ t = cc in
+    (sym z, ltb-false b (s .«last_block») (p .0))
 
 pub admitted-gives : (s : ArqInactivity) (b : ℕ) {t : ArqInactivity} → admitted s b ≡ gives t → (fewerThan 4 (s .«next_token») ≡ false) × (t ≡ clocked s b) × (s .«last_block» ≤ b)
 admitted-gives s b e =

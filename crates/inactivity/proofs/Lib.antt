@@ -2,3 +2,4 @@ pub mod Apart
 pub mod Calls
 pub mod Kept
 pub mod Lending
+pub mod Samples

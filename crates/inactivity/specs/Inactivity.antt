@@ -2,7 +2,7 @@
 use mathlib.Core.Path.{_≡_}
 use mathlib.Core.Bool.{Bool, true, false, cond, not, _&&_}
 use Prim.Native.Nat.{ℕ, _-_, _≤_, _<_}
-use lib.Dec.{eqb, ltb}
+use lib.Dec.{eqb, ltb, leb}
 use Rattle.token.specs.Token.{stop, after, fewerThan}
 use Rattle.spach.specs.Refusal.{numberOf, Outcome, gives, refuses, refuse, verdictOf, After, onward}
 use Rattle.inactivity.specs.declared.TransactionToken.{TransactionToken}
@@ -93,7 +93,7 @@ receivedFrameOf s b = onward s (ticked s b) (λ t. done (waiting t))
 
 -- 32 blocks have passed since a block
 abbrev pub elapsed : ArqInactivity → ℕ → Bool
-elapsed s since = not (ltb (s .«last_block» - since) 32)
+elapsed s since = leb 32 (s .«last_block» - since)
 
 -- what is due at the clock's block, by the state: an unsolicited status, if none is pending; after it the end
 abbrev pub due : State → ArqInactivity → Turn

@@ -4,7 +4,8 @@ pub mod lent;
 use spach::SpachError;
 use spach::Verdict;
 ghost use mathlib.Core.Path.{_≡_};
-ghost use Rattle.inactivity.specs.Inactivity.{Sound, newOf, ownsOf, renewed, put, waiting, isIdle, sentFrom, turn, acts, admitted, resetOf, observeOf, receivedFrameOf, dueOf, advanceOf, unsolicitedAt, unsolicitedOf, solicitedAt, solicitedOf, observed, hasReset, acted, admission, refusalOf};
+ghost use Prim.Native.Nat.{_≤_};
+ghost use Rattle.inactivity.specs.Inactivity.{Sound, newOf, ownsOf, renewed, put, waiting, isIdle, sentFrom, turn, acts, elapsed, admitted, resetOf, observeOf, receivedFrameOf, dueOf, advanceOf, unsolicitedAt, unsolicitedOf, solicitedAt, solicitedOf, observed, hasReset, acted, admission, refusalOf};
 ghost use Rattle.spach.specs.Refusal.{refuses};
 
 // Tells the transactions of one timer apart: a number of its counter.
@@ -254,6 +255,14 @@ impl ArqInactivity {
         }
     }
 
+    // Whether 32 blocks have passed since a block.
+    fn elapsed(self, since_block: u64) -> bool
+        requires { ⌜ «since_block» ≤ self .«last_block» ⌝ }
+        ensures { λ r. ⌜ r ≡ elapsed self «since_block» ⌝ }
+    {
+        32 <= self.last_block - since_block
+    }
+
     // What is due at the clock's block.
     pub fn due(self) -> Turn
         requires { ⌜ Sound self ⌝ }
@@ -265,14 +274,14 @@ impl ArqInactivity {
                 if self.unsolicited_pending {
                     return turned(self, InactivityAction::None);
                 }
-                if self.last_block - since_block < 32 {
+                if !self.elapsed(since_block) {
                     return turned(self, InactivityAction::None);
                 }
                 let asking = self.put(State::SendingUnsolicited, true);
                 turned(asking, InactivityAction::RequestUnsolicitedStatus)
             }
             State::FinalWait { since_block } => {
-                if self.last_block - since_block < 32 {
+                if !self.elapsed(since_block) {
                     return turned(self, InactivityAction::None);
                 }
                 let ended = self.renew();

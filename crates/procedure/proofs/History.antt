@@ -6,7 +6,7 @@ use mathlib.Core.Logic.{_⊎_, inl, inr, ⊎-elim}
 use Prim.Native.Nat.{ℕ, _+_, _-_, _≤_, _<_}
 use native.Mathlib.Omega.{arith}
 use lib.Dec.{ltb}
-use borrow.Author.Tests.{ltb-false, ltb-true, eqb-false, eq-eqb, ne-eqb, not-true, not-false}
+use borrow.Author.Tests.{leb-true, leb-false, eqb-false, eq-eqb, ne-eqb}
 use Rattle.spach.specs.Refusal.{gives, refuses, After}
 use Rattle.receiver.specs.declared.Delivery.{Delivery}
 use Rattle.receiver.specs.Receiver.{completeOf}
@@ -208,10 +208,10 @@ lull-final n h (over r l) = absurd (n r)
 
 -- 32 blocks from d to b
 elapsed-true : (t : ArqInactivity) (d : ℕ) → elapsed t d ≡ true → d + 32 ≤ t .«last_block»
-elapsed-true t d e = let l : 32 ≤ t .«last_block» - d = ltb-false (t .«last_block» - d) 32 (not-true (ltb (t .«last_block» - d) 32) e) in omega arith
+elapsed-true t d e = let l : 32 ≤ t .«last_block» - d = leb-true 32 (t .«last_block» - d) e in omega arith
 
 elapsed-false : (t : ArqInactivity) (d : ℕ) → elapsed t d ≡ false → t .«last_block» < d + 32
-elapsed-false t d e = let l : t .«last_block» - d < 32 = ltb-true (t .«last_block» - d) 32 (not-false (ltb (t .«last_block» - d) 32) e) in omega arith
+elapsed-false t d e = let l : t .«last_block» - d < 32 = leb-false 32 (t .«last_block» - d) e in omega arith
 
 waits-from : {s d : ℕ} → FinalWait s ≡ FinalWait d → s ≡ d
 waits-from e = cc

@@ -3,5 +3,6 @@ pub mod Calls
 pub mod History
 pub mod Kept
 pub mod Laws
+pub mod Samples
 pub mod Steps
 pub mod Ways
