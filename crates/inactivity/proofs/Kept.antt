@@ -14,7 +14,7 @@ use Rattle.inactivity.specs.declared.State.{State}
 use Rattle.inactivity.specs.declared.State.the-variants.{Idle, Waiting, SendingUnsolicited, FinalWait}
 use Rattle.inactivity.specs.declared.ArqInactivity.{ArqInactivity}
 use Rattle.inactivity.proofs.Calls.{ticked-gives, admitted-gives}
-use Rattle.inactivity.specs.Inactivity.{Sound, turn, newOf, ownsOf, renewed, clocked, waiting, put, enough, ticked, admitted, acts, done, resetOf, observeOf, receivedFrameOf, due, dueOf, elapsed, advanceOf, reported, unsolicitedBy, unsolicitedAt, unsolicitedOf, solicitedBy, solicitedAt, solicitedOf, isIdle, sentFrom}
+use Rattle.inactivity.specs.Inactivity.{Sound, turn, newOf, ownsOf, renewed, clocked, waiting, put, enough, ticked, admitted, acts, done, resetOf, observeOf, receivedFrameOf, due, dueOf, elapsed, advanceOf, reported, unsolicitedBy, unsolicitedAt, solicitedBy, solicitedAt, resultAt, isIdle, sentFrom}
 
 -- a law of what a call leaves holds if it holds of the state as it was and of all that the call goes on to
 pub onward-keeps : {A S : Type 0} (P : S → Type 0) (s : S) (o : Outcome S) (f : S → After A S) → P s → ((t : S) → o ≡ gives t → P (f t .state)) → P (onward s o f .state)
@@ -99,13 +99,12 @@ sound-advance s b = admitted-keeps s b (λ t. acts (dueOf t)) sound-due-of
 reported-keeps : (s : ArqInactivity) (t : TransactionToken) (b : ℕ) (f : ArqInactivity → Turn) → ((u : ArqInactivity) → Sound u → Sound (f u .timer)) → Sound s → Sound (reported s t b f .state)
 reported-keeps s t b f k h = cond-keeps SoundAfter (ownsOf s t) (onward s (admitted s b) (λ u. acts (f u))) (acts (turn None s)) (admitted-keeps s b (λ u. acts (f u)) k h) h
 
-pub sound-unsolicited : (s : ArqInactivity) (t : TransactionToken) (b : ℕ) (r : StatusResult) → Sound s → Sound (unsolicitedOf s t b r .state)
-unfolding unsolicitedOf
-sound-unsolicited s t b r = reported-keeps s t b (unsolicitedAt r) (sound-unsolicited-at r)
+sound-result-at : (solicited : Bool) (r : StatusResult) (s : ArqInactivity) → Sound s → Sound (resultAt solicited r s .timer)
+sound-result-at true = sound-solicited-at
+sound-result-at false = sound-unsolicited-at
 
-pub sound-solicited : (s : ArqInactivity) (t : TransactionToken) (b : ℕ) (r : StatusResult) → Sound s → Sound (solicitedOf s t b r .state)
-unfolding solicitedOf
-sound-solicited s t b r = reported-keeps s t b (solicitedAt r) (sound-solicited-at r)
+pub sound-reported : (solicited : Bool) (s : ArqInactivity) (t : TransactionToken) (b : ℕ) (r : StatusResult) → Sound s → Sound (reported s t b (resultAt solicited r) .state)
+sound-reported solicited s t b r = reported-keeps s t b (resultAt solicited r) (sound-result-at solicited r)
 
 -- what equals a definition is as sound as the definition
 pub kept : {A : Type 0} {x y : After A ArqInactivity} → x ≡ y → Sound (y .state) → (x ≡ y) × Sound (x .state)

@@ -108,10 +108,6 @@ dueOf s = due (s .state) s
 unfoldable pub advanceOf : ArqInactivity → ℕ → After InactivityAction ArqInactivity
 advanceOf s b = onward s (admitted s b) (λ t. acts (dueOf t))
 
--- a result with its token: a foreign one gives None first; then 18, then 17
-abbrev pub reported : ArqInactivity → TransactionToken → ℕ → (ArqInactivity → Turn) → After InactivityAction ArqInactivity
-reported s t b f = cond (ownsOf s t) (onward s (admitted s b) (λ u. acts (f u))) (acts (turn None s))
-
 -- the state after an unsolicited status was sent at block b
 abbrev pub sentFrom : State → ℕ → State
 sentFrom Idle b = FinalWait b
@@ -128,9 +124,6 @@ unsolicitedBy Failed s = turn Terminate (renewed s)
 abbrev pub unsolicitedAt : StatusResult → ArqInactivity → Turn
 unsolicitedAt r s = cond (s .«unsolicited_pending») (unsolicitedBy r s) (turn None s)
 
-unfoldable pub unsolicitedOf : ArqInactivity → TransactionToken → ℕ → StatusResult → After InactivityAction ArqInactivity
-unsolicitedOf s t b r = reported s t b (unsolicitedAt r)
-
 abbrev pub isIdle : State → Bool
 isIdle Idle = true
 isIdle (Waiting since) = false
@@ -146,8 +139,19 @@ solicitedBy Failed s = turn Terminate (renewed s)
 abbrev pub solicitedAt : StatusResult → ArqInactivity → Turn
 solicitedAt r s = cond (isIdle (s .state)) (turn None s) (solicitedBy r s)
 
+-- a result with its token: a foreign one gives None first; then 18, then 17
+abbrev pub reported : ArqInactivity → TransactionToken → ℕ → (ArqInactivity → Turn) → After InactivityAction ArqInactivity
+reported s t b f = cond (ownsOf s t) (onward s (admitted s b) (λ u. acts (f u))) (acts (turn None s))
+
+unfoldable pub unsolicitedOf : ArqInactivity → TransactionToken → ℕ → StatusResult → After InactivityAction ArqInactivity
+unsolicitedOf s t b r = reported s t b (unsolicitedAt r)
+
 unfoldable pub solicitedOf : ArqInactivity → TransactionToken → ℕ → StatusResult → After InactivityAction ArqInactivity
 solicitedOf s t b r = reported s t b (solicitedAt r)
+
+-- the two in one, for the function that both go through
+abbrev pub resultAt : Bool → StatusResult → ArqInactivity → Turn
+resultAt solicited r s = cond solicited (solicitedAt r s) (unsolicitedAt r s)
 
 -- ---- answers by 01's numbers
 

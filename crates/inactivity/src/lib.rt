@@ -5,7 +5,7 @@ use spach::SpachError;
 use spach::Verdict;
 ghost use mathlib.Core.Path.{_≡_};
 ghost use Prim.Native.Nat.{_≤_};
-ghost use Rattle.inactivity.specs.Inactivity.{Sound, newOf, ownsOf, renewed, put, waiting, isIdle, sentFrom, turn, acts, elapsed, admitted, resetOf, observeOf, receivedFrameOf, dueOf, advanceOf, unsolicitedAt, unsolicitedOf, solicitedAt, solicitedOf, observed, hasReset, acted, admission, refusalOf};
+ghost use Rattle.inactivity.specs.Inactivity.{Sound, newOf, ownsOf, renewed, put, waiting, isIdle, sentFrom, turn, acts, elapsed, admitted, resetOf, observeOf, receivedFrameOf, dueOf, advanceOf, unsolicitedAt, unsolicitedOf, solicitedAt, solicitedOf, resultAt, reported, observed, hasReset, acted, admission, refusalOf};
 ghost use Rattle.spach.specs.Refusal.{refuses};
 
 // Tells the transactions of one timer apart: a number of its counter.
@@ -325,25 +325,6 @@ impl ArqInactivity {
         }
     }
 
-    pub fn unsolicited_status_result(
-        self,
-        token: TransactionToken,
-        block: u64,
-        result: StatusResult,
-    ) -> Acted
-        requires { ⌜ Sound self ⌝ }
-        ensures { λ r. ⌜ (acted r ≡ unsolicitedOf self token block result) × Sound (r .timer) ⌝ }
-    {
-        if !self.owns(token) {
-            return act(turned(self, InactivityAction::None));
-        }
-        let admission = self.admit(block);
-        match admission {
-            Admission::Refused(error) => refuse(self, error),
-            Admission::Admitted(timer) => act(timer.unsolicited_at(result)),
-        }
-    }
-
     // A solicited status was sent, or was not, at the clock's block.
     pub fn solicited_at(self, result: StatusResult) -> Turn
         ensures { λ r. ⌜ r ≡ solicitedAt result self ⌝ }
@@ -364,6 +345,48 @@ impl ArqInactivity {
         }
     }
 
+    fn result_at(self, solicited: bool, result: StatusResult) -> Turn
+        ensures { λ r. ⌜ r ≡ resultAt solicited result self ⌝ }
+    {
+        if solicited {
+            return self.solicited_at(result);
+        }
+        self.unsolicited_at(result)
+    }
+
+    // A foreign token gives None first; then 18, then 17.
+    fn status_result(
+        self,
+        solicited: bool,
+        token: TransactionToken,
+        block: u64,
+        result: StatusResult,
+    ) -> Acted
+        requires { ⌜ Sound self ⌝ }
+        ensures { λ r. ⌜ (acted r ≡ reported self token block (resultAt solicited result)) × Sound (r .timer) ⌝ }
+    {
+        if !self.owns(token) {
+            return act(turned(self, InactivityAction::None));
+        }
+        let admission = self.admit(block);
+        match admission {
+            Admission::Refused(error) => refuse(self, error),
+            Admission::Admitted(timer) => act(timer.result_at(solicited, result)),
+        }
+    }
+
+    pub fn unsolicited_status_result(
+        self,
+        token: TransactionToken,
+        block: u64,
+        result: StatusResult,
+    ) -> Acted
+        requires { ⌜ Sound self ⌝ }
+        ensures { λ r. ⌜ (acted r ≡ unsolicitedOf self token block result) × Sound (r .timer) ⌝ }
+    {
+        self.status_result(false, token, block, result)
+    }
+
     pub fn solicited_status_result(
         self,
         token: TransactionToken,
@@ -373,14 +396,7 @@ impl ArqInactivity {
         requires { ⌜ Sound self ⌝ }
         ensures { λ r. ⌜ (acted r ≡ solicitedOf self token block result) × Sound (r .timer) ⌝ }
     {
-        if !self.owns(token) {
-            return act(turned(self, InactivityAction::None));
-        }
-        let admission = self.admit(block);
-        match admission {
-            Admission::Refused(error) => refuse(self, error),
-            Admission::Admitted(timer) => act(timer.solicited_at(result)),
-        }
+        self.status_result(true, token, block, result)
     }
 
     pub fn observe(mut self, block: u64) -> Observed

@@ -55,6 +55,10 @@ frame m k = octetsIn (encodeOf (cutFrame header identity m k))
 abbrev seven : List ℕ
 seven = 1 ∷ 2 ∷ 3 ∷ 4 ∷ 5 ∷ 6 ∷ 7 ∷ []
 
+-- one of twenty needs two Continues
+abbrev twenty : List ℕ
+twenty = replicate 20 9
+
 abbrev room : List ℕ
 room = replicate 255 0
 
@@ -78,7 +82,7 @@ pub settled : (newOf identity 7 ≡ gives (fresh 7))
     × (advanceOf begun 132 .outcome ≡ gives (SendStatus (unsolicited asked)))
     × (unsolicited asked .request .status .«partial_echo» ≡ 5)
     × (unsolicited asked .token .0 ≡ 8)
-    × (advanceOf (runs asked (receive 140 (frame seven 0) room ∷ [])) 171 .outcome ≡ gives None)
+    × (advanceOf (runs (fresh 7) (receive 100 (frame twenty 0) room ∷ advance 132 ∷ receive 140 (frame twenty 1) room ∷ [])) 900 .outcome ≡ gives None)
     × (statusSentOf asked 150 (unsolicited asked) results.Sent .outcome ≡ gives sends.Pending)
     × (advanceOf told 181 .outcome ≡ gives None)
     × (advanceOf told 182 .outcome ≡ gives Terminated)
