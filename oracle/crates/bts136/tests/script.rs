@@ -270,7 +270,7 @@ fn ends_of_a_script() {
     assert_eq!(ends("", 1), [END]);
     assert_eq!(ends("", 0), []);
     assert_eq!(ends("00", 1), [END_UNKNOWN]);
-    assert_eq!(ends("16", 1), [END_UNKNOWN]);
+    assert_eq!(ends("27", 1), [END_UNKNOWN]);
     assert_eq!(ends("07 0000", 1), [END_CUT]);
     // CHECK has a longest answer of 1, TAKE of 11 even where it refuses
     assert_eq!(ends("02 00 0000000000000001", 2), [0, END]);

@@ -1,10 +1,19 @@
 //! The protocol of the README, answered by the original code.
-use super::wire::{self, FRAME_OCTETS};
+use super::{
+    numbered::Numbered,
+    opened::{
+        inactivity::{
+            ArqInactivity, InactivityAction, InactivityError, StatusResult, TransactionToken,
+        },
+        procedure::{ArqProcedure, ProcedureError, ReceiveEvent, TimerEvent},
+    },
+    wire::{self, FRAME_OCTETS, TRANSMISSION_OCTETS},
+};
 use crate::{
     link::{
         rach::MobileIdentity,
         spach::{
-            Channel, HeaderFlags, SpachError, SpachReceiver as Given,
+            Channel, HeaderFlags, SingleMessage, SpachError, SpachReceiver as Given,
             arq::{self, ArqFrame, ArqHeader, ArqReassembler, Reception, ResponseMode},
         },
     },
@@ -36,6 +45,10 @@ pub const LEAST_ROOM: usize = 255;
 const PADDING: Refusal = Refusal(15);
 /// Document 01's own: the lent buffer is too short for any message.
 const ROOM: Refusal = Refusal(16);
+/// The original's `ClockBackwards`.
+const CLOCK: Refusal = Refusal(17);
+/// Document 01's own: too few tokens are left for a call that may take some.
+const TOKENS: Refusal = Refusal(18);
 
 pub const PARTS: u8 = 0x01;
 pub const CHECK: u8 = 0x02;
@@ -58,6 +71,23 @@ pub const PUSH: u8 = 0x12;
 pub const RESET: u8 = 0x13;
 pub const STATUS: u8 = 0x14;
 pub const COMPLETE: u8 = 0x15;
+pub const TIMER: u8 = 0x16;
+pub const TIMER_TOKEN: u8 = 0x17;
+pub const TIMER_OWNS: u8 = 0x18;
+pub const TIMER_RESET: u8 = 0x19;
+pub const TIMER_OBSERVE: u8 = 0x1a;
+pub const TIMER_RECEIVED: u8 = 0x1b;
+pub const TIMER_ADVANCE: u8 = 0x1c;
+pub const TIMER_UNSOLICITED: u8 = 0x1d;
+pub const TIMER_SOLICITED: u8 = 0x1e;
+pub const TIMER_STATE: u8 = 0x1f;
+pub const PROCEDURE: u8 = 0x20;
+pub const PROCEDURE_RESET: u8 = 0x21;
+pub const PROCEDURE_ACTIVE: u8 = 0x22;
+pub const RECEIVE: u8 = 0x23;
+pub const ADVANCE: u8 = 0x24;
+pub const SENT: u8 = 0x25;
+pub const PROCEDURE_STATE: u8 = 0x26;
 
 /// A row of the README's table of operations.
 pub struct Operation {
@@ -74,7 +104,7 @@ pub struct Operation {
 
 /// In the order of their op octets, the first of which is 1.
 #[rustfmt::skip]
-pub static OPERATIONS: [Operation; 21] = [
+pub static OPERATIONS: [Operation; 38] = [
     row(PARTS,    "PARTS",     9, 11, &[NO_CALL],          parts),
     row(CHECK,    "CHECK",     9,  1, &[2, NO_CALL],       check),
     row(EQUAL,    "EQUAL",    18,  2, &[NO_CALL],          equal),
@@ -96,6 +126,23 @@ pub static OPERATIONS: [Operation; 21] = [
     row(RESET,    "RESET",     0,  1, &[NO_CALL],          reset),
     row(STATUS,   "STATUS",    0,  7, &[NO_CALL],          status),
     row(COMPLETE, "COMPLETE",  0,  2, &[NO_CALL],          complete),
+    row(TIMER,             "TIMER",              8,  1, &[],                timer),
+    row(TIMER_TOKEN,       "TIMER_TOKEN",        0,  9, &[NO_CALL],         timer_token),
+    row(TIMER_OWNS,        "TIMER_OWNS",         8,  2, &[NO_CALL],         timer_owns),
+    row(TIMER_RESET,       "TIMER_RESET",        0,  1, &[18, NO_CALL],     timer_reset),
+    row(TIMER_OBSERVE,     "TIMER_OBSERVE",      8,  1, &[17, NO_CALL],     timer_observe),
+    row(TIMER_RECEIVED,    "TIMER_RECEIVED",     8,  1, &[17, NO_CALL],     timer_received),
+    row(TIMER_ADVANCE,     "TIMER_ADVANCE",      8,  2, &[17, 18, NO_CALL], timer_advance),
+    row(TIMER_UNSOLICITED, "TIMER_UNSOLICITED", 17,  2, &[17, 18, NO_CALL], timer_unsolicited),
+    row(TIMER_SOLICITED,   "TIMER_SOLICITED",   17,  2, &[17, 18, NO_CALL], timer_solicited),
+    row(TIMER_STATE,       "TIMER_STATE",        0, 35, &[NO_CALL],         timer_state),
+    row(PROCEDURE,         "PROCEDURE",         17,  1, &[2, NO_CALL],      procedure),
+    row(PROCEDURE_RESET,   "PROCEDURE_RESET",    0,  1, &[18, NO_CALL],     procedure_reset),
+    row(PROCEDURE_ACTIVE,  "PROCEDURE_ACTIVE",   0,  2, &[NO_CALL],         procedure_active),
+    row(RECEIVE,           "RECEIVE",           44, 336, &[1, 2, 3, 4, 5, 6, 7, 12, 14, 15, 16, 17, 18, NO_CALL], receive),
+    row(ADVANCE,           "ADVANCE",            8, 19, &[17, 18, NO_CALL], advance),
+    row(SENT,              "SENT",              25,  2, &[17, 18, NO_CALL], sent),
+    row(PROCEDURE_STATE,   "PROCEDURE_STATE",    0, 42, &[NO_CALL],         procedure_state),
 ];
 const fn row(
     op: u8,
@@ -133,11 +180,7 @@ pub fn run_each(script: &[u8], answers: &mut [u8], mut each: impl FnMut(Step)) -
     if answers.is_empty() {
         return 0;
     }
-    let mut machine = Machine {
-        store: [false; STORE_BITS],
-        message: [0; MESSAGE_OCTETS],
-        receiver: None,
-    };
+    let mut machine = Machine::default();
     let (mut at, mut written) = (0, 0);
     let end = loop {
         let operation = match next(&script[at..], answers.len() - written) {
@@ -192,14 +235,38 @@ fn answer(operation: &Operation, machine: &mut Machine, operands: &[u8], room: &
 }
 
 /// What a script runs on.
-struct Machine {
+pub struct Machine {
     store: [bool; STORE_BITS],
     message: [u8; MESSAGE_OCTETS],
     receiver: Option<ArqReassembler>,
+    timer: Option<Numbered<ArqInactivity>>,
+    procedure: Option<Numbered<ArqProcedure>>,
+}
+impl Default for Machine {
+    fn default() -> Self {
+        Self {
+            store: [false; STORE_BITS],
+            message: [0; MESSAGE_OCTETS],
+            receiver: None,
+            timer: None,
+            procedure: None,
+        }
+    }
 }
 impl Machine {
+    /// Writes the answer to one whole operation and gives its length.
+    pub fn step(&mut self, op: u8, operands: &[u8], room: &mut [u8]) -> usize {
+        let operation = operation(op).expect("an op octet of the table");
+        answer(operation, self, operands, room)
+    }
     fn receiver(&mut self) -> Result<&mut ArqReassembler, Refusal> {
         self.receiver.as_mut().ok_or(Refusal(NO_CALL))
+    }
+    fn timer(&mut self) -> Result<&mut Numbered<ArqInactivity>, Refusal> {
+        self.timer.as_mut().ok_or(Refusal(NO_CALL))
+    }
+    fn procedure(&mut self) -> Result<&mut Numbered<ArqProcedure>, Refusal> {
+        self.procedure.as_mut().ok_or(Refusal(NO_CALL))
     }
 }
 
@@ -215,6 +282,19 @@ struct Refusal(u8);
 impl From<SpachError> for Refusal {
     fn from(error: SpachError) -> Self {
         Self(wire::number(error))
+    }
+}
+impl From<InactivityError> for Refusal {
+    fn from(InactivityError::ClockBackwards: InactivityError) -> Self {
+        CLOCK
+    }
+}
+impl From<ProcedureError> for Refusal {
+    fn from(error: ProcedureError) -> Self {
+        match error {
+            ProcedureError::Wire(error) => error.into(),
+            ProcedureError::Clock(error) => error.into(),
+        }
     }
 }
 /// Refuses operands that name no call.
@@ -248,6 +328,48 @@ impl Operands<'_> {
     }
     fn frame(&mut self) -> [bool; 8 * FRAME_OCTETS] {
         wire::unpack_frame(&self.octets::<FRAME_OCTETS>())
+    }
+    fn result(&mut self) -> Result<StatusResult, Refusal> {
+        wire::status_result(self.octet()).ok_or(Refusal(NO_CALL))
+    }
+    fn heard(&mut self) -> Heard {
+        Heard {
+            length: usize::from(self.octet()),
+            octets: self.octets(),
+            room: self.count(),
+            filling: self.octet(),
+        }
+    }
+}
+
+/// What was heard, and the buffer that is lent for its message.
+struct Heard {
+    length: usize,
+    octets: [u8; DECODE_OCTETS],
+    room: usize,
+    filling: u8,
+}
+impl Heard {
+    fn names_a_call(&self) -> Answered {
+        call_if(self.length <= DECODE_OCTETS && self.room <= MESSAGE_OCTETS)
+    }
+    fn enough_room(&self) -> Answered {
+        if self.room < LEAST_ROOM {
+            return Err(ROOM);
+        }
+        Ok(())
+    }
+    fn information(&self) -> Result<Vec<bool>, Refusal> {
+        information(&self.octets[..self.length])
+    }
+    /// The buffer afterwards.
+    fn buffer(&self, message: Option<&SingleMessage>) -> [u8; MESSAGE_OCTETS] {
+        let mut buffer = [0; MESSAGE_OCTETS];
+        buffer[..self.room].fill(self.filling);
+        if let Some(delivered) = message {
+            buffer[..delivered.message.len()].copy_from_slice(&delivered.message);
+        }
+        buffer
     }
 }
 
@@ -463,26 +585,17 @@ fn new(call: &mut Call<'_>) -> Answered {
 }
 
 fn push(call: &mut Call<'_>) -> Answered {
-    let length = usize::from(call.operands.octet());
-    let octets = call.operands.octets::<DECODE_OCTETS>();
-    let (room, filling) = (call.operands.count(), call.operands.octet());
+    let heard = call.operands.heard();
     let receiver = call.machine.receiver()?;
-    call_if(length <= DECODE_OCTETS && room <= MESSAGE_OCTETS)?;
-    if room < LEAST_ROOM {
-        return Err(ROOM);
-    }
-    let reception = receiver.push(&information(&octets[..length])?)?;
-    let mut buffer = [0; MESSAGE_OCTETS];
-    buffer[..room].fill(filling);
-    if let Reception::Accepted {
-        message: Some(delivered),
-        ..
-    } = &reception
-    {
-        buffer[..delivered.message.len()].copy_from_slice(&delivered.message);
-    }
+    heard.names_a_call()?;
+    heard.enough_room()?;
+    let reception = receiver.push(&heard.information()?)?;
+    let message = match &reception {
+        Reception::Ignored => None,
+        Reception::Accepted { message, .. } => message.as_ref(),
+    };
     call.values.octets(&wire::reception_octets(&reception));
-    call.values.octets(&buffer);
+    call.values.octets(&heard.buffer(message));
     Ok(())
 }
 
@@ -499,6 +612,188 @@ fn status(call: &mut Call<'_>) -> Answered {
 
 fn complete(call: &mut Call<'_>) -> Answered {
     let complete = call.machine.receiver()?.complete();
+    call.values.octet(u8::from(complete));
+    Ok(())
+}
+
+/// Document 01's own refusal of a call that may take tokens.
+fn tokens_left<T: AsRef<ArqInactivity>>(numbered: &Numbered<T>) -> Answered {
+    if numbered.short_of_tokens() {
+        return Err(TOKENS);
+    }
+    Ok(())
+}
+/// The same where the original answers a foreign token before anything else.
+fn tokens_left_if_own<T: AsRef<ArqInactivity>>(
+    numbered: &Numbered<T>,
+    token: &TransactionToken,
+) -> Answered {
+    if numbered.timer().owns(token) {
+        tokens_left(numbered)?;
+    }
+    Ok(())
+}
+
+fn timer(call: &mut Call<'_>) -> Answered {
+    let first = call.operands.value();
+    let made = Numbered::new(first, || Ok::<_, Refusal>(ArqInactivity::default()));
+    call.machine.timer = Some(made?);
+    Ok(())
+}
+
+fn timer_token(call: &mut Call<'_>) -> Answered {
+    let token = call.machine.timer()?.timer().token();
+    call.values.value(token.number());
+    Ok(())
+}
+
+fn timer_owns(call: &mut Call<'_>) -> Answered {
+    let number = call.operands.value();
+    let timer = call.machine.timer()?;
+    let owns = timer.timer().owns(&timer.token(number));
+    call.values.octet(u8::from(owns));
+    Ok(())
+}
+
+fn timer_reset(call: &mut Call<'_>) -> Answered {
+    let timer = call.machine.timer()?;
+    tokens_left(timer)?;
+    timer.call(ArqInactivity::reset);
+    Ok(())
+}
+
+fn timer_observe(call: &mut Call<'_>) -> Answered {
+    let block = call.operands.value();
+    let timer = call.machine.timer()?;
+    Ok(timer.call(|timer| timer.observe(block))?)
+}
+
+fn timer_received(call: &mut Call<'_>) -> Answered {
+    let block = call.operands.value();
+    let timer = call.machine.timer()?;
+    Ok(timer.call(|timer| timer.received_frame(block))?)
+}
+
+fn timer_advance(call: &mut Call<'_>) -> Answered {
+    let block = call.operands.value();
+    let timer = call.machine.timer()?;
+    tokens_left(timer)?;
+    let action = timer.call(|timer| timer.advance(block))?;
+    call.values.octet(action as u8);
+    Ok(())
+}
+
+fn timer_unsolicited(call: &mut Call<'_>) -> Answered {
+    timer_result(call, ArqInactivity::unsolicited_status_result)
+}
+fn timer_solicited(call: &mut Call<'_>) -> Answered {
+    timer_result(call, ArqInactivity::solicited_status_result)
+}
+type ResultCall = fn(
+    &mut ArqInactivity,
+    &TransactionToken,
+    u64,
+    StatusResult,
+) -> Result<InactivityAction, InactivityError>;
+fn timer_result(call: &mut Call<'_>, given: ResultCall) -> Answered {
+    let (number, block) = (call.operands.value(), call.operands.value());
+    let timer = call.machine.timer()?;
+    let result = call.operands.result()?;
+    let token = timer.token(number);
+    tokens_left_if_own(timer, &token)?;
+    let action = timer.call(|timer| given(timer, &token, block, result))?;
+    call.values.octet(action as u8);
+    Ok(())
+}
+
+fn timer_state(call: &mut Call<'_>) -> Answered {
+    let timer = call.machine.timer()?;
+    let octets = wire::timer_octets(timer.timer(), timer.next());
+    call.values.octets(&octets);
+    Ok(())
+}
+
+fn procedure(call: &mut Call<'_>) -> Answered {
+    let (identity, first) = (call.operands.identity()?, call.operands.value());
+    call.machine.procedure = None;
+    let made = Numbered::new(first, || ArqProcedure::try_new(identity));
+    call.machine.procedure = Some(made?);
+    Ok(())
+}
+
+fn procedure_reset(call: &mut Call<'_>) -> Answered {
+    let procedure = call.machine.procedure()?;
+    tokens_left(procedure)?;
+    procedure.call(ArqProcedure::reset);
+    Ok(())
+}
+
+fn procedure_active(call: &mut Call<'_>) -> Answered {
+    let active = call.machine.procedure()?.given().active();
+    call.values.octet(u8::from(active));
+    Ok(())
+}
+
+fn receive(call: &mut Call<'_>) -> Answered {
+    let (block, heard) = (call.operands.value(), call.operands.heard());
+    let procedure = call.machine.procedure()?;
+    heard.names_a_call()?;
+    tokens_left(procedure)?;
+    heard.enough_room()?;
+    let bits = match heard.information() {
+        Ok(bits) => bits,
+        // The original's clock goes before its decode, of which document 01's padding is a part.
+        Err(padding) => {
+            procedure.call(|procedure| procedure.observe(block))?;
+            return Err(padding);
+        }
+    };
+    let event = procedure.call(|procedure| procedure.receive(block, &bits))?;
+    let message = match &event {
+        ReceiveEvent::Ignored => None,
+        ReceiveEvent::Accepted { message, .. } => message.as_ref(),
+    };
+    call.values.octets(&wire::receive_octets(&event));
+    call.values.octets(&heard.buffer(message));
+    Ok(())
+}
+
+fn advance(call: &mut Call<'_>) -> Answered {
+    let block = call.operands.value();
+    let procedure = call.machine.procedure()?;
+    tokens_left(procedure)?;
+    let event = procedure.call(|procedure| procedure.advance(block))?;
+    let (event, transmission) = match &event {
+        TimerEvent::None => (0, None),
+        TimerEvent::SendStatus(transmission) => (1, Some(transmission)),
+        TimerEvent::Terminated => (2, None),
+    };
+    call.values.octet(event);
+    call.values.octets(&wire::transmission_octets(transmission));
+    Ok(())
+}
+
+fn sent(call: &mut Call<'_>) -> Answered {
+    let block = call.operands.value();
+    let octets = call.operands.octets::<TRANSMISSION_OCTETS>();
+    let procedure = call.machine.procedure()?;
+    let result = call.operands.result()?;
+    let transmission = wire::transmission(&octets, |number| procedure.token(number));
+    let transmission = transmission.ok_or(Refusal(NO_CALL))?;
+    tokens_left_if_own(procedure, transmission.token())?;
+    let event = procedure.call(|procedure| procedure.status_sent(block, transmission, result))?;
+    call.values.octet(event as u8);
+    Ok(())
+}
+
+fn procedure_state(call: &mut Call<'_>) -> Answered {
+    let procedure = call.machine.procedure()?;
+    let timer = wire::timer_octets(procedure.timer(), procedure.next());
+    let receiver = procedure.given().receiver();
+    let status = wire::status_octets(receiver.status().as_ref());
+    let complete = receiver.complete();
+    call.values.octets(&timer);
+    call.values.octets(&status);
     call.values.octet(u8::from(complete));
     Ok(())
 }

@@ -1,11 +1,16 @@
 //! The octets of the protocol as the original's types, and back.
+use super::opened::{
+    inactivity::{ArqInactivity, StatusResult, TransactionToken},
+    procedure::{ReceiveEvent, StatusTransmission},
+};
 use crate::{
     link::{
         rach::{ArqStatus, MobileIdentity},
         spach::{
-            Channel, HeaderFlags, SpachError,
+            Channel, HeaderFlags, SingleMessage, SpachError,
             arq::{
-                ArqFrame, ArqHeader, CONTINUE_DATA_BITS, Reception, ResponseMode, fragment_message,
+                ArqFrame, ArqHeader, CONTINUE_DATA_BITS, Reception, ResponseMode, StatusRequest,
+                fragment_message,
             },
         },
     },
@@ -17,8 +22,13 @@ pub const FRAME_OCTETS: usize = 14;
 /// The operands of a header and of a frame, and how an answer has a frame.
 pub const HEADER_OCTETS: usize = 5;
 pub const PARSED_OCTETS: usize = 36;
+/// The operand of a transmission.
+pub const TRANSMISSION_OCTETS: usize = 16;
 const RECEPTION_OCTETS: usize = 22;
+const DELIVERY_OCTETS: usize = 13;
 const STATUS_OCTETS: usize = 6;
+const TIMER_OCTETS: usize = 34;
+const RECEIVE_OCTETS: usize = 31;
 const BEGIN_OCTETS: usize = 7;
 const CONTINUE_OCTETS: usize = 10;
 
@@ -77,10 +87,13 @@ pub fn header(octets: [u8; HEADER_OCTETS]) -> Option<ArqHeader> {
         flags: header_flags(flags)?,
         partial_echo,
         polling: flag(polling)?,
-        response_mode: match flag(response_mode)? {
-            false => ResponseMode::Contention,
-            true => ResponseMode::Reservation,
-        },
+        response_mode: mode(response_mode)?,
+    })
+}
+fn mode(octet: u8) -> Option<ResponseMode> {
+    Some(match flag(octet)? {
+        false => ResponseMode::Contention,
+        true => ResponseMode::Reservation,
     })
 }
 fn flag(octet: u8) -> Option<bool> {
@@ -195,15 +208,21 @@ pub fn reception_octets(reception: &Reception) -> [u8; RECEPTION_OCTETS] {
         return octets;
     };
     octets[0] = 1;
-    if let Some(delivered) = message {
-        let (kind, _, value) = delivered.identity.parts();
-        octets[1..5].copy_from_slice(&[1, delivered.channel as u8, flags(delivered.flags), kind]);
-        octets[5..13].copy_from_slice(&value.to_be_bytes());
-        octets[13] = u8::try_from(delivered.message.len()).expect("255 octets at most");
-    }
+    octets[1..14].copy_from_slice(&delivery_octets(message.as_ref()));
     if let Some(request) = status_request {
         octets[14..20].copy_from_slice(&status_octets(Some(&request.status)));
         octets[20] = mode_octet(request.response_mode);
+    }
+    octets
+}
+/// Message 0 or 1, and what is told of it beside its octets.
+fn delivery_octets(message: Option<&SingleMessage>) -> [u8; DELIVERY_OCTETS] {
+    let mut octets = [0; DELIVERY_OCTETS];
+    if let Some(delivered) = message {
+        let (kind, _, value) = delivered.identity.parts();
+        octets[..4].copy_from_slice(&[1, delivered.channel as u8, flags(delivered.flags), kind]);
+        octets[4..12].copy_from_slice(&value.to_be_bytes());
+        octets[12] = u8::try_from(delivered.message.len()).expect("255 octets at most");
     }
     octets
 }
@@ -220,6 +239,69 @@ pub fn status_octets(status: Option<&ArqStatus>) -> [u8; STATUS_OCTETS] {
 }
 fn mode_octet(mode: ResponseMode) -> u8 {
     u8::from(mode == ResponseMode::Reservation)
+}
+
+/// A timer, whose counter has this next number, as an answer has it.
+pub fn timer_octets(timer: &ArqInactivity, next: u64) -> [u8; TIMER_OCTETS] {
+    let mut octets = [0; TIMER_OCTETS];
+    let (state, since) = timer.state();
+    octets[0] = state;
+    octets[1..9].copy_from_slice(&since.to_be_bytes());
+    octets[9..17].copy_from_slice(&timer.last_block().to_be_bytes());
+    octets[17] = u8::from(timer.unsolicited_pending());
+    octets[18..26].copy_from_slice(&timer.token().number().to_be_bytes());
+    octets[26..].copy_from_slice(&next.to_be_bytes());
+    octets
+}
+/// `None` if the octet names no result.
+pub fn status_result(octet: u8) -> Option<StatusResult> {
+    Some(match flag(octet)? {
+        false => StatusResult::Sent,
+        true => StatusResult::Failed,
+    })
+}
+/// `None` if the octets name no transmission; `token` gives that of a number.
+pub fn transmission(
+    octets: &[u8; TRANSMISSION_OCTETS],
+    token: impl FnOnce(u64) -> TransactionToken,
+) -> Option<StatusTransmission> {
+    let map = u32::from_be_bytes(*octets[1..].first_chunk()?);
+    let request = StatusRequest {
+        status: ArqStatus {
+            partial_echo: octets[0],
+            received_frames: std::array::from_fn(|frame| map >> frame & 1 != 0),
+        },
+        response_mode: mode(octets[5])?,
+    };
+    let (unsolicited, complete_at_poll) = (flag(octets[14])?, flag(octets[15])?);
+    let token = token(u64::from_be_bytes(*octets[6..].first_chunk()?));
+    let made_up = StatusTransmission::new(request, token, unsolicited, complete_at_poll);
+    Some(made_up)
+}
+/// Present, and a transmission as its operand.
+pub fn transmission_octets(
+    transmission: Option<&StatusTransmission>,
+) -> [u8; 1 + TRANSMISSION_OCTETS] {
+    let mut octets = [0; 1 + TRANSMISSION_OCTETS];
+    if let Some(transmission) = transmission {
+        let request = &transmission.request;
+        octets[..6].copy_from_slice(&status_octets(Some(&request.status)));
+        octets[6] = mode_octet(request.response_mode);
+        octets[7..15].copy_from_slice(&transmission.token().number().to_be_bytes());
+        octets[15] = u8::from(transmission.unsolicited());
+        octets[16] = u8::from(transmission.complete_at_poll());
+    }
+    octets
+}
+/// What a procedure made of a frame, as an answer has it.
+pub fn receive_octets(event: &ReceiveEvent) -> [u8; RECEIVE_OCTETS] {
+    let mut octets = [0; RECEIVE_OCTETS];
+    if let ReceiveEvent::Accepted { message, status } = event {
+        octets[0] = 1;
+        octets[1..14].copy_from_slice(&delivery_octets(message.as_ref()));
+        octets[14..].copy_from_slice(&transmission_octets(status.as_ref()));
+    }
+    octets
 }
 
 /// `None` if the Rust type cannot hold the pair.
