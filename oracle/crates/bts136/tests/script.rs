@@ -257,6 +257,397 @@ fn receivers() {
     );
 }
 
+const LAST: u64 = u64::MAX;
+/// Operations of one number, or of a token, a block and a result.
+fn of(op: &str, number: u64) -> String {
+    format!("{op} {number:016x}")
+}
+fn result(op: &str, token: u64, block: u64, result: &str) -> String {
+    format!("{op} {token:016x} {block:016x} {result}")
+}
+/// The values of a timer: state, since, last block, pending, token, next number.
+fn timer(state: u8, blocks: [u64; 2], pending: u8, numbers: [u64; 2]) -> String {
+    let ([since, last], [token, next]) = (blocks, numbers);
+    format!("{state:02x} {since:016x} {last:016x} {pending:02x} {token:016x} {next:016x}")
+}
+/// Runs each operation and the one of the state after it; no state is expected where its text is empty.
+#[track_caller]
+fn life(state_op: &str, steps: &[(String, &str, String)]) {
+    let (mut script, mut expected) = (String::new(), String::new());
+    for (operation, answer, state) in steps {
+        script += operation;
+        expected += answer;
+        if !state.is_empty() {
+            script += state_op;
+            expected += &format!("00 {state}");
+        }
+    }
+    answers(&script, &expected);
+}
+#[test]
+fn a_timer_waits_32_blocks_twice() {
+    life(
+        "1f",
+        &[
+            (of("16", 7), "00", timer(0, [0, 0], 0, [7, 8])),
+            (of("1b", 100), "00", timer(1, [100, 100], 0, [7, 8])),
+            (of("1c", 131), "0000", timer(1, [100, 131], 0, [7, 8])),
+            (of("1c", 132), "0001", timer(2, [0, 132], 1, [7, 8])),
+            // its status fails to come; it comes; then it comes again
+            (of("1c", 164), "0000", timer(2, [0, 164], 1, [7, 8])),
+            (
+                result("1d", 7, 170, "00"),
+                "0000",
+                timer(3, [170, 170], 0, [7, 8]),
+            ),
+            (
+                result("1d", 7, 171, "01"),
+                "0000",
+                timer(3, [170, 171], 0, [7, 8]),
+            ),
+            (of("1c", 201), "0000", timer(3, [170, 201], 0, [7, 8])),
+            (of("1c", 202), "0002", timer(0, [0, 202], 0, [8, 9])),
+            // idle, whatever comes of a solicited status
+            (
+                result("1e", 8, 203, "01"),
+                "0000",
+                timer(0, [0, 203], 0, [8, 9]),
+            ),
+            (of("1b", 203), "00", String::new()),
+            (
+                result("1e", 8, 210, "00"),
+                "0000",
+                timer(1, [210, 210], 0, [8, 9]),
+            ),
+            (
+                result("1e", 8, 210, "01"),
+                "0002",
+                timer(0, [0, 210], 0, [9, 10]),
+            ),
+        ],
+    );
+}
+#[test]
+fn a_timer_asks_once_while_a_status_is_pending() {
+    life(
+        "1f",
+        &[
+            (of("16", 0) + &of("1b", 0), "0000", String::new()),
+            (of("1c", 32), "0001", timer(2, [0, 32], 1, [0, 1])),
+            (of("1b", 33), "00", timer(1, [33, 33], 1, [0, 1])),
+            (of("1c", 99), "0000", timer(1, [33, 99], 1, [0, 1])),
+            (
+                result("1d", 0, 100, "00"),
+                "0000",
+                timer(1, [100, 100], 0, [0, 1]),
+            ),
+            (of("1c", 131), "0000", String::new()),
+            (of("1c", 132), "0001", timer(2, [0, 132], 1, [0, 1])),
+            (
+                result("1e", 0, 140, "00"),
+                "0000",
+                timer(1, [140, 140], 1, [0, 1]),
+            ),
+            (
+                result("1d", 0, 141, "01"),
+                "0002",
+                timer(0, [0, 141], 0, [1, 2]),
+            ),
+        ],
+    );
+}
+#[test]
+fn the_refusals_of_a_timer() {
+    let three = [LAST - 4, LAST - 3];
+    life(
+        "1f",
+        &[
+            // exactly four left, then three
+            (
+                of("16", LAST - 5) + "19",
+                "0000",
+                timer(0, [0, 0], 0, three),
+            ),
+            (of("1b", 9), "00", timer(1, [9, 9], 0, three)),
+            (of("1a", 8), "11", String::new()),
+            (of("1b", 8), "11", String::new()),
+            ("19".to_owned(), "12", String::new()),
+            (of("1c", 8), "12", String::new()),
+            (result("1d", LAST - 4, 8, "00"), "12", String::new()),
+            (result("1e", LAST - 4, 8, "00"), "12", String::new()),
+            // a foreign token goes before both refusals and moves no clock
+            (result("1d", LAST - 5, 8, "01"), "0000", String::new()),
+            (result("1e", LAST - 3, 80, "01"), "0000", String::new()),
+            ("17".to_owned(), "00 fffffffffffffffb", String::new()),
+            (of("18", LAST - 4), "0001", String::new()),
+            (of("18", LAST - 5), "0000", timer(1, [9, 9], 0, three)),
+            // the counter stops
+            (
+                of("16", LAST - 1),
+                "00",
+                timer(0, [0, 0], 0, [LAST - 1, LAST]),
+            ),
+            (of("16", LAST), "00", timer(0, [0, 0], 0, [LAST, LAST])),
+        ],
+    );
+    let clock = of("16", 1) + &of("1a", 5) + &of("1c", 4);
+    let clock = clock + &result("1d", 1, 4, "00") + &result("1e", 1, 4, "01");
+    answers(&clock, "00 00 11 11 11");
+    let none = ["17".to_owned(), of("18", 0), "19".to_owned(), of("1a", 0)];
+    let none = none.concat() + &of("1b", 0) + &of("1c", 0) + "1f";
+    let none = none + &result("1d", 0, 0, "00") + &result("1e", 0, 0, "00");
+    answers(&none, &"ff".repeat(9));
+    let over = of("16", 0) + &result("1d", 9, 0, "02") + &result("1e", 0, 0, "ff");
+    answers(&over, "00 ff ff");
+}
+
+/// Seven octets of ones to the Tmsi20 of 1, echo 5: the Begin unpolled, the Continue unpolled and polled.
+const BEGIN: &str = "6140000021401fff ffffffffff f8";
+const CONTINUE: &str = "61802802 00000000000000000000";
+const POLLED: &str = "61802902 00000000000000000000";
+fn receive(block: u64, frame: &str) -> String {
+    received(block, "0e", frame, "00ff")
+}
+fn received(block: u64, length: &str, frame: &str, room: &str) -> String {
+    format!(
+        "23 {block:016x} {length} {frame} {} {room} aa",
+        "00".repeat(18)
+    )
+}
+/// What an accepted frame is answered: a delivery of some octets, a transmission, and the buffer of 255.
+fn accepted(delivery: &str, transmission: &str, message: &str) -> String {
+    let rest = "aa".repeat(255 - message.len() / 2);
+    format!(
+        "00 01 {delivery} {transmission} {message} {rest} {}",
+        "00".repeat(49)
+    )
+}
+fn nothing(octets: usize) -> String {
+    "00".repeat(octets)
+}
+fn delivery(length: &str) -> String {
+    format!("01 03 00 {TMSI} {length}")
+}
+/// Of echo 5 and Contention: the map, the token, kind and complete_at_poll.
+fn transmission(map: u32, token: u64, rest: &str) -> String {
+    format!("05 {map:08x} 00 {token:016x} {rest}")
+}
+fn sent(block: u64, transmission: &str, result: &str) -> String {
+    format!("25 {block:016x} {transmission} {result}")
+}
+fn made(first: u64) -> String {
+    format!("20 {TMSI} {first:016x}")
+}
+const NONE_HELD: &str = "00 00 00000000 00";
+fn state(timer: String, receiver: &str) -> String {
+    format!("{timer} {receiver}")
+}
+#[test]
+fn a_complete_polled_message_waits_for_its_status() {
+    let status = transmission(0, 8, "00 01");
+    let held = "01 05 00000000 01";
+    let delivered = accepted(&delivery("01"), &format!("01 {status}"), "41");
+    let complete = state(timer(0, [0, 5], 0, [8, 9]), held);
+    let silent = format!("00 00 {}", nothing(17));
+    life(
+        "26",
+        &[
+            (made(7), "00", state(timer(0, [0, 0], 0, [7, 8]), NONE_HELD)),
+            ("22".to_owned(), "0000", String::new()),
+            (receive(5, SAMPLE), &delivered, complete),
+            ("22".to_owned(), "0001", String::new()),
+            (
+                of("24", 1000),
+                &silent,
+                state(timer(0, [0, 1000], 0, [8, 9]), held),
+            ),
+            (
+                sent(1000, &status, "00"),
+                "0002",
+                state(timer(0, [0, 1000], 0, [9, 10]), NONE_HELD),
+            ),
+            // used twice: it is foreign now, and its clock goes back
+            (
+                sent(3, &status, "00"),
+                "0000",
+                state(timer(0, [0, 1000], 0, [9, 10]), NONE_HELD),
+            ),
+            // unpolled, it takes two numbers and nothing is held
+            (
+                receive(1001, &SAMPLE.replace("48", "40")),
+                &accepted(&delivery("01"), &nothing(17), "41"),
+                state(timer(0, [0, 1001], 0, [11, 12]), NONE_HELD),
+            ),
+        ],
+    );
+}
+#[test]
+fn a_procedure_asks_after_32_blocks_and_ends_after_32_more() {
+    let held = "01 05 00000000 00";
+    let status = transmission(0, 1, "01 00");
+    let silent = format!("00 00 {}", nothing(17));
+    let ended = format!("00 02 {}", nothing(17));
+    life(
+        "26",
+        &[
+            (made(0), "00", String::new()),
+            (
+                receive(10, BEGIN),
+                &accepted(&nothing(13), &nothing(17), ""),
+                state(timer(1, [10, 10], 0, [1, 2]), held),
+            ),
+            (of("24", 41), &silent, String::new()),
+            (
+                of("24", 42),
+                &format!("00 01 01 {status}"),
+                state(timer(2, [0, 42], 1, [1, 2]), held),
+            ),
+            (
+                sent(50, &status, "00"),
+                "0001",
+                state(timer(3, [50, 50], 0, [1, 2]), held),
+            ),
+            (of("24", 81), &silent, String::new()),
+            // two numbers: the timer's reset and the procedure's
+            (
+                of("24", 82),
+                &ended,
+                state(timer(0, [0, 82], 0, [3, 4]), NONE_HELD),
+            ),
+        ],
+    );
+    // with exactly four left at the last step
+    let status = transmission(0, LAST - 5, "01 00");
+    let two = [LAST - 3, LAST - 2];
+    life(
+        "26",
+        &[
+            (made(LAST - 6), "00", String::new()),
+            (
+                receive(0, BEGIN),
+                &accepted(&nothing(13), &nothing(17), ""),
+                String::new(),
+            ),
+            (
+                of("24", 32) + &sent(32, &status, "00") + &of("24", 64),
+                &format!("00 01 01 {status} 0001 {ended}"),
+                state(timer(0, [0, 64], 0, two), NONE_HELD),
+            ),
+            (of("24", 1), "12", String::new()),
+            ("21".to_owned(), "12", String::new()),
+            (
+                sent(1, &transmission(0, two[0], "00 00"), "00"),
+                "12",
+                String::new(),
+            ),
+            (sent(1, &status, "00"), "0000", String::new()),
+            // too few tokens go before too little room
+            (received(1, "0e", BEGIN, "00fe"), "12", String::new()),
+        ],
+    );
+}
+#[test]
+fn a_complete_message_is_heard_again() {
+    let polled = |complete: &str| format!("01 {}", transmission(1, 1, &format!("00 {complete}")));
+    let message = accepted(&delivery("07"), &polled("01"), "ffffffffffffff");
+    let heard = accepted(&nothing(13), &polled("01"), "");
+    let held = "01 05 00000001 01";
+    let start = made(0) + &receive(10, BEGIN) + &receive(11, POLLED);
+    let started = format!("00 {} {message}", accepted(&nothing(13), &nothing(17), ""));
+    let waiting = state(timer(1, [10, 11], 0, [1, 2]), held);
+    let reset = state(timer(0, [0, 12], 0, [2, 3]), NONE_HELD);
+    // an unpolled one resets, a polled one asks for another status, of which the first that is sent resets
+    life(
+        "26",
+        &[
+            (start.clone(), &started, waiting.clone()),
+            (
+                receive(12, CONTINUE),
+                &accepted(&nothing(13), &nothing(17), ""),
+                reset.clone(),
+            ),
+            (sent(12, &transmission(1, 1, "00 01"), "00"), "0000", reset),
+        ],
+    );
+    life(
+        "26",
+        &[
+            (start, &started, waiting),
+            (receive(12, POLLED), &heard, String::new()),
+            // made up: its kind decides, then complete_at_poll, then the result
+            (
+                sent(13, &transmission(9, 1, "01 00"), "00"),
+                "0001",
+                state(timer(1, [10, 13], 0, [1, 2]), held),
+            ),
+            (
+                sent(14, &transmission(9, 1, "00 00"), "00"),
+                "0001",
+                state(timer(1, [14, 14], 0, [1, 2]), held),
+            ),
+            (
+                sent(14, &transmission(9, 1, "01 01"), "00"),
+                "0002",
+                state(timer(0, [0, 14], 0, [2, 3]), NONE_HELD),
+            ),
+            (
+                sent(15, &transmission(9, 2, "01 01"), "01"),
+                "0003",
+                state(timer(0, [0, 15], 0, [3, 4]), NONE_HELD),
+            ),
+        ],
+    );
+}
+#[test]
+fn the_refusals_of_a_procedure() {
+    let padded = SAMPLE.replace("000000000000", "000000000001");
+    let idle = |last| state(timer(0, [0, last], 0, [0, 1]), NONE_HELD);
+    let own = transmission(0, 0, "00 00");
+    let ignored = format!("00 {} {} {}", nothing(31), "aa".repeat(255), nothing(49));
+    life(
+        "26",
+        &[
+            (made(0), "00", String::new()),
+            // room, clock, length, padding, and the frame last; an accepted clock stays moved
+            (received(9, "0d", &padded, "00fe"), "10", idle(0)),
+            (received(9, "0d", &padded, "00ff"), "01", idle(9)),
+            (received(8, "0d", &padded, "00ff"), "11", idle(9)),
+            (receive(10, &padded), "0f", idle(10)),
+            (receive(9, &padded), "11", idle(10)),
+            (receive(11, &SAMPLE.replace("61", "a1")), "03", idle(11)),
+            (receive(12, CONTINUE), &ignored, idle(12)),
+            (of("24", 11), "11", idle(12)),
+            (sent(11, &own, "00"), "11", idle(12)),
+            (received(13, "21", SAMPLE, "00ff"), "ff", String::new()),
+            (received(13, "0e", SAMPLE, "0131"), "ff", String::new()),
+            (sent(13, &own, "02"), "ff", idle(12)),
+            (
+                "21".to_owned(),
+                "00",
+                state(timer(0, [0, 12], 0, [1, 2]), NONE_HELD),
+            ),
+        ],
+    );
+    for other in ["02 0000000000000000 00 00", "00 0000000000000000 02 00"] {
+        let transmission = format!("05 00000000 {other}");
+        answers(&(made(0) + &sent(0, &transmission, "00")), "00 ff");
+    }
+    let complete = transmission(0, 9, "00 02");
+    answers(&(made(0) + &sent(0, &complete, "00")), "00 ff");
+    let calls = "21 22 26".to_owned() + &receive(0, SAMPLE) + &of("24", 0) + &sent(0, &own, "00");
+    answers(&calls, &"ff".repeat(6));
+    // none after a refused one; the old one stays if the operands name no call; it has its own counter
+    let refused = made(0) + "20 00 0000000000000000 0000000000000005";
+    answers(&format!("{refused} 22"), "00 02 ff");
+    let none = made(0) + "20 04 0000000000000001 0000000000000005";
+    answers(&format!("{none} 22"), "00 ff 0000");
+    let both = of("16", 7) + &made(20) + "19 21 17";
+    answers(
+        &(both + &of("18", 20)),
+        "00 00 00 00 00 0000000000000008 0000",
+    );
+}
+
 /// Runs in a room of this size and gives what was written.
 fn ends(script: &str, room: usize) -> Vec<u8> {
     let mut answers = vec![0x55; room];
