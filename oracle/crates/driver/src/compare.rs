@@ -174,16 +174,14 @@ impl Tally {
             let rows = self.numbers.range((operation.op, 0)..=(operation.op, 255));
             let total: u64 = rows.clone().map(|(_, count)| count).sum();
             if total > 0 {
-                print!("{:#04x} {:10} {total:9}", operation.op, operation.name);
+                print!("{:#04x} {:17} {total:9}", operation.op, operation.name);
                 rows.for_each(|((_, number), count)| print!("  {number}: {count}"));
                 println!();
             }
         }
     }
     fn print(&self) {
-        for operation in &OPERATIONS {
-            self.print_operation(operation);
-        }
+        OPERATIONS.iter().for_each(|row| self.print_operation(row));
         print!("end octets:");
         for (end, count) in &self.ends {
             match end {
@@ -193,14 +191,14 @@ impl Tally {
         }
         println!();
     }
-    fn print_operation(&self, operation: &Operation) {
+    pub fn print_operation(&self, operation: &Operation) {
         let numbers = [ANSWERED].iter().chain(operation.refusals);
         let counts = numbers.map(|number| {
             let count = self.numbers.get(&(operation.op, *number));
             (number, count.copied().unwrap_or(0))
         });
         let total: u64 = counts.clone().map(|(_, count)| count).sum();
-        print!("{:#04x} {:10} {total:9}", operation.op, operation.name);
+        print!("{:#04x} {:17} {total:9}", operation.op, operation.name);
         for (number, count) in counts {
             let unseen = if count == 0 { " (not seen)" } else { "" };
             print!("  {number}: {count}{unseen}");

@@ -1,10 +1,13 @@
 //! Random scripts, most of their operands at or near a boundary.
-use crate::{random::Random, receive};
+use crate::{lives, random::Random, receive};
 use bts136::harness::{
     script::{
-        ACCEPT, ADDRESS, CHECK, COMPLETE, COPY, COUNT, DECODE, DECODE_OCTETS, DUMP, ENCODE, EQUAL,
-        FIELD_BITS, FILL, FRAME, HEADER_A, LAST_ADDRESS, LAST_HEADER_A, MESSAGE, MESSAGE_OCTETS,
-        NEW, OPERATIONS, PARTS, PUSH, PUT, RESET, STATUS, STORE_BITS, TAKE, operation,
+        ACCEPT, ADDRESS, ADVANCE, CHECK, COMPLETE, COPY, COUNT, DECODE, DECODE_OCTETS, DUMP,
+        ENCODE, EQUAL, FIELD_BITS, FILL, FRAME, HEADER_A, LAST_ADDRESS, LAST_HEADER_A, MESSAGE,
+        MESSAGE_OCTETS, NEW, OPERATIONS, PARTS, PROCEDURE, PROCEDURE_ACTIVE, PROCEDURE_RESET,
+        PROCEDURE_STATE, PUSH, PUT, RECEIVE, RESET, SENT, STATUS, STORE_BITS, TAKE, TIMER,
+        TIMER_ADVANCE, TIMER_OBSERVE, TIMER_OWNS, TIMER_RECEIVED, TIMER_RESET, TIMER_SOLICITED,
+        TIMER_STATE, TIMER_TOKEN, TIMER_UNSOLICITED, operation,
     },
     wire::{self, FRAME_OCTETS, HEADER_OCTETS, PARSED_OCTETS},
 };
@@ -67,6 +70,12 @@ pub fn operations(random: &mut Random, count: usize) -> Vec<u8> {
             script.extend(transfer.concat());
             continue;
         }
+        if left > 10 && random.chance(2) {
+            let mut life = lives::any(random);
+            left -= life.truncate(left);
+            script.extend(life.script);
+            continue;
+        }
         let op = 1 + random.below(OPERATIONS.len()) as u8;
         append(random, op, &mut script);
         left -= 1;
@@ -97,7 +106,8 @@ pub fn append(random: &mut Random, op: u8, script: &mut Vec<u8>) {
         TAKE => take(random, script),
         PUT => put(random, script),
         FILL => fill(random, EIGHTHS, script),
-        DUMP | RESET | STATUS | COMPLETE => {}
+        DUMP | RESET | STATUS | COMPLETE | TIMER_TOKEN | TIMER_RESET | TIMER_STATE
+        | PROCEDURE_RESET | PROCEDURE_ACTIVE | PROCEDURE_STATE => {}
         COPY => copy(random, script),
         ENCODE => script.extend_from_slice(&near_parsed(random)),
         DECODE => decode(random, script),
@@ -106,9 +116,27 @@ pub fn append(random: &mut Random, op: u8, script: &mut Vec<u8>) {
             cut(random, script);
         }
         FRAME => cut_frame(random, script),
-        PUSH => {
-            decode(random, script);
-            script.extend_from_slice(&receive::room(random));
+        PUSH => heard(random, script),
+        TIMER | TIMER_OWNS => number(random, script),
+        TIMER_OBSERVE | TIMER_RECEIVED | TIMER_ADVANCE | ADVANCE => block(random, script),
+        TIMER_UNSOLICITED | TIMER_SOLICITED => {
+            number(random, script);
+            block(random, script);
+            script.push(lives::result(random));
+        }
+        PROCEDURE => {
+            script.extend_from_slice(&identity(random));
+            number(random, script);
+        }
+        RECEIVE => {
+            block(random, script);
+            heard(random, script);
+        }
+        SENT => {
+            block(random, script);
+            let token = lives::number(random);
+            script.extend_from_slice(&lives::transmission(random, token));
+            script.push(lives::result(random));
         }
         _ => unreachable!("{} has no operands yet", row.name),
     }
@@ -435,6 +463,20 @@ fn decode(random: &mut Random, script: &mut Vec<u8>) {
     }
     script.extend_from_slice(&operands);
 }
+fn heard(random: &mut Random, script: &mut Vec<u8>) {
+    decode(random, script);
+    script.extend_from_slice(&receive::room(random));
+}
+fn number(random: &mut Random, script: &mut Vec<u8>) {
+    script.extend_from_slice(&lives::number(random).to_be_bytes());
+}
+fn block(random: &mut Random, script: &mut Vec<u8>) {
+    let block = match random.below(3) {
+        0 => random.any_length(),
+        _ => random.below(80) as u64,
+    };
+    script.extend_from_slice(&block.to_be_bytes());
+}
 /// A good frame with another value in one of the fields that decode looks at.
 pub fn spoiled(random: &mut Random, parsed: &[u8; PARSED_OCTETS]) -> [u8; FRAME_OCTETS] {
     let mut bits = wire::unpack_frame(&encoded(parsed));
@@ -501,11 +543,11 @@ fn cut_frame(random: &mut Random, script: &mut Vec<u8>) {
 #[cfg(test)]
 pub mod tests {
     use super::*;
-    use bts136::harness::script::{ANSWERED, run_each};
+    use bts136::harness::script::{ANSWERED, Operation, run_each};
     use std::collections::BTreeSet;
 
-    /// Every number octet of the table is an answer to one of the scripts.
-    pub fn assert_all_reached(scripts: &[Vec<u8>]) {
+    /// Every number octet of these rows is an answer to one of the scripts.
+    pub fn assert_all_reached(rows: &[Operation], scripts: &[Vec<u8>]) {
         let mut seen = BTreeSet::new();
         let mut answers = vec![0; 1 << 18];
         for script in scripts {
@@ -517,7 +559,7 @@ pub mod tests {
                     .map(|step| (step.operation.op, answers[step.answer.start])),
             );
         }
-        for row in &OPERATIONS {
+        for row in rows {
             for number in row.refusals.iter().chain(&[ANSWERED]) {
                 assert!(seen.contains(&(row.op, *number)), "{} {number}", row.name);
             }
@@ -526,7 +568,7 @@ pub mod tests {
     #[test]
     fn random_scripts_have_every_number_octet_of_every_operation() {
         let mut random = Random(1);
-        let scripts: Vec<_> = (0..1500).map(|_| script(&mut random)).collect();
-        assert_all_reached(&scripts);
+        let scripts: Vec<_> = (0..3000).map(|_| script(&mut random)).collect();
+        assert_all_reached(&OPERATIONS, &scripts);
     }
 }

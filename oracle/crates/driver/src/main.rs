@@ -3,6 +3,7 @@ mod compare;
 mod exhaust;
 mod generate;
 mod hex;
+mod lives;
 mod make;
 mod port;
 mod random;
@@ -11,21 +12,24 @@ mod time;
 
 use std::{env, path::Path, process::ExitCode};
 
-const USAGE: &str =
-    "usage: driver compare SEED COUNT | receive SEED COUNT | exhaust SEED | make FOLDER | time";
+const USAGE: &str = "usage: driver compare SEED COUNT | receive SEED COUNT | lives SEED COUNT | exhaust SEED | make FOLDER | time";
 
 fn main() -> ExitCode {
     let arguments: Vec<String> = env::args().skip(1).collect();
     let arguments: Vec<&str> = arguments.iter().map(String::as_str).collect();
     match arguments[..] {
-        [command @ ("compare" | "receive"), seed, count] => match (seed.parse(), count.parse()) {
-            (Ok(seed), Ok(count)) if command == "compare" => compare::main(seed, count),
-            (Ok(seed), Ok(count)) => receive::main(seed, count),
-            _ => usage(),
-        },
+        ["compare", seed, count] => counted(compare::main, seed, count),
+        ["receive", seed, count] => counted(receive::main, seed, count),
+        ["lives", seed, count] => counted(lives::main, seed, count),
         ["exhaust", seed] => seed.parse().map_or_else(|_| usage(), exhaust::main),
         ["make", folder] => make::main(Path::new(folder)),
         ["time"] => time::main(),
+        _ => usage(),
+    }
+}
+fn counted(run: fn(u64, u64) -> ExitCode, seed: &str, count: &str) -> ExitCode {
+    match (seed.parse(), count.parse()) {
+        (Ok(seed), Ok(count)) => run(seed, count),
         _ => usage(),
     }
 }

@@ -487,6 +487,6 @@ mod tests {
 
     #[test]
     fn the_fixed_script_has_every_number_octet_of_every_operation() {
-        assert_all_reached(&[fixed_script()]);
+        assert_all_reached(&OPERATIONS, &[fixed_script()]);
     }
 }

@@ -32,7 +32,7 @@ const DATA_BITS: usize = 79;
 /// The place of an answered push that tells whether a message was delivered.
 const DELIVERED: usize = 2;
 
-type Parsed = [u8; PARSED_OCTETS];
+pub type Parsed = [u8; PARSED_OCTETS];
 type Operations = Vec<Vec<u8>>;
 
 /// Scripts of transfers alone, until so many pushes were compared.
@@ -82,7 +82,8 @@ pub fn transfer(random: &mut Random, most: usize) -> Operations {
     let own = good_identity(random, kind);
     let mut operations = vec![operation(NEW, &[&own])];
     for _ in 0..1 + random.below(2) {
-        Transfer::new(random, own).append(random, &mut operations);
+        let length = length(random);
+        Transfer::new(random, own, length).append(random, &mut operations);
     }
     operations.truncate(most);
     operations
@@ -102,22 +103,24 @@ pub fn room(random: &mut Random) -> [u8; 3] {
     let [upper, lower] = (room as u16).to_be_bytes();
     [upper, lower, random.octet()]
 }
-fn push(random: &mut Random, parsed: &Parsed) -> Vec<u8> {
+fn length(random: &mut Random) -> usize {
+    match random.below(10) {
+        0 | 1 => random.pick(&[0, 1, 3, 4, 5, 6, 7, 8, 16, 17, 18, 254, LONGEST_MESSAGE]),
+        2..=6 => random.below(60),
+        _ => random.below(LONGEST_MESSAGE + 1),
+    }
+}
+pub fn push(random: &mut Random, parsed: &Parsed) -> Vec<u8> {
     operation(PUSH, &[&decode_operands(&encoded(parsed)), &room(random)])
 }
 
 /// A message as it is cut.
-struct Transfer {
+pub struct Transfer {
     own: [u8; 9],
     frames: Vec<Parsed>,
 }
 impl Transfer {
-    fn new(random: &mut Random, own: [u8; 9]) -> Self {
-        let length = match random.below(10) {
-            0 | 1 => random.pick(&[0, 1, 3, 4, 5, 6, 7, 8, 16, 17, 18, 254, LONGEST_MESSAGE]),
-            2..=6 => random.below(60),
-            _ => random.below(LONGEST_MESSAGE + 1),
-        };
+    pub fn new(random: &mut Random, own: [u8; 9], length: usize) -> Self {
         let message: Vec<u8> = (0..length).map(|_| random.octet()).collect();
         let header: [u8; HEADER_OCTETS] = good_header(random);
         let frames = wire::cut(header, own, &message).expect("a message that is cut");
@@ -133,7 +136,10 @@ impl Transfer {
             let frame = self.polled(random, index);
             operations.push(push(random, &frame));
             if random.chance(noise) {
-                operations.push(self.other(random));
+                operations.push(match random.below(16) {
+                    0 => self.no_push(random),
+                    _ => self.other(random),
+                });
             }
         }
         for _ in 0..random.below(4) {
@@ -144,7 +150,7 @@ impl Transfer {
         operations.push(vec![random.pick(&[STATUS, COMPLETE])]);
     }
     /// In order, the Begin first, or any; some frames more than once.
-    fn order(&self, random: &mut Random) -> Vec<usize> {
+    pub fn order(&self, random: &mut Random) -> Vec<usize> {
         let mut order: Vec<usize> = (0..self.frames.len()).collect();
         let repeated = random.pick(&[0, 0, 10, 30]);
         for index in 1..self.frames.len() {
@@ -159,17 +165,17 @@ impl Transfer {
         }
         order
     }
-    fn polled(&self, random: &mut Random, index: usize) -> Parsed {
+    pub fn polled(&self, random: &mut Random, index: usize) -> Parsed {
         let mut frame = self.frames[index];
         frame[POLLING] = u8::from(random.chance(30));
         frame[MODE] = random.octet() % 2;
         frame
     }
-    /// A frame that differs from those of the transfer, or an operation that is no push.
-    fn other(&self, random: &mut Random) -> Vec<u8> {
+    /// The push of a frame that differs from those of the transfer.
+    pub fn other(&self, random: &mut Random) -> Vec<u8> {
         let index = random.below(self.frames.len());
         let mut frame = self.polled(random, index);
-        match random.below(16) {
+        match random.below(15) {
             0 => frame[ECHO] = random.octet() % 128,
             1 => frame[USAGE] ^= 3 ^ 4,
             2 if index > 0 => frame[TYPE] = random.octet() % 4,
@@ -198,12 +204,11 @@ impl Transfer {
             11 => frame = good_parsed(random),
             12 => return damaged(random, &self.frames[0]),
             13 => return damaged(random, &frame),
-            14 => {
+            _ => {
                 let mut any = Vec::new();
                 append(random, PUSH, &mut any);
                 return any;
             }
-            _ => return self.no_push(random),
         }
         push(random, &frame)
     }
