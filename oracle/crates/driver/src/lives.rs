@@ -148,18 +148,15 @@ impl Life {
         }
     }
 
-    /// Forward, mostly to a block at which a wait ends or just does not; now and then back.
+    /// Forward by little, by a wait or just not, or by any; now and then back.
     fn block(&self, random: &mut Random) -> [u8; 8] {
-        let after = |wait: u64| self.since.saturating_add(wait).max(self.last_block);
         let step = match random.below(40) {
-            0..=8 => 0,
-            9..=16 => 1,
-            17..=19 => 31,
-            20..=23 => 32,
-            24 | 25 => 33,
-            26..=29 => after(31) - self.last_block,
-            30..=34 => after(32) - self.last_block,
-            35 | 36 => random.below(100) as u64,
+            0..=11 => 0,
+            12..=21 => 1,
+            22..=24 => 31,
+            25..=30 => 32,
+            31..=33 => 33,
+            34..=36 => random.below(100) as u64,
             37 => return random.any_length().to_be_bytes(),
             _ => {
                 let back = 1 + random.below(40) as u64;
@@ -167,6 +164,15 @@ impl Life {
             }
         };
         self.last_block.saturating_add(step).to_be_bytes()
+    }
+    /// The block at which a wait ends, the one before, or the one after; or any.
+    fn end_of_wait(&self, random: &mut Random) -> [u8; 8] {
+        if random.chance(50) {
+            return self.block(random);
+        }
+        let wait = random.pick(&[31, 32, 32, 33]);
+        let end = self.since.saturating_add(wait).max(self.last_block);
+        end.to_be_bytes()
     }
     /// Mostly the present one; else an older one, one that is not yet, a neighbour or any.
     fn token(&self, random: &mut Random) -> u64 {
@@ -199,7 +205,7 @@ impl Life {
             2 => self.call(TIMER_OWNS, &[&token]),
             3 => self.call(TIMER_OBSERVE, &[&block]),
             4..=7 => self.call(TIMER_RECEIVED, &[&block]),
-            8..=12 => self.call(TIMER_ADVANCE, &[&block]),
+            8..=12 => self.call(TIMER_ADVANCE, &[&self.end_of_wait(random)]),
             13..=16 => self.call(TIMER_UNSOLICITED, &[&token, &block, &[result(random)]]),
             _ => self.call(TIMER_SOLICITED, &[&token, &block, &[result(random)]]),
         }
@@ -232,7 +238,7 @@ impl Life {
             0 => self.call(PROCEDURE_RESET, &[]),
             1 => self.call(PROCEDURE_ACTIVE, &[]),
             2..=6 => self.call(RECEIVE, &[&block, &air.other(random)]),
-            7..=15 => self.call(ADVANCE, &[&block]),
+            7..=15 => self.call(ADVANCE, &[&self.end_of_wait(random)]),
             _ => {
                 let transmission = self.transmission(random);
                 self.call(SENT, &[&block, &transmission, &[result(random)]]);
@@ -265,8 +271,8 @@ fn calls(random: &mut Random) -> usize {
 /// A first number or a token: small, any, or one of the last 13.
 pub fn number(random: &mut Random) -> u64 {
     match random.below(10) {
-        0..=3 => random.below(20) as u64,
-        4 | 5 => random.any_length(),
+        0..=4 => random.below(20) as u64,
+        5 | 6 => random.any_length(),
         _ => u64::MAX - random.below(13) as u64,
     }
 }
