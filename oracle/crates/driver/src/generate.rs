@@ -568,7 +568,7 @@ pub mod tests {
     #[test]
     fn random_scripts_have_every_number_octet_of_every_operation() {
         let mut random = Random(1);
-        let scripts: Vec<_> = (0..3000).map(|_| script(&mut random)).collect();
+        let scripts: Vec<_> = (0..6000).map(|_| script(&mut random)).collect();
         assert_all_reached(&OPERATIONS, &scripts);
     }
 }

@@ -9,18 +9,20 @@ use crate::{
 };
 use bts136::harness::{
     script::{
-        self, ACCEPT, ADDRESS, CHECK, COMPLETE, COPY, COUNT, DECODE, DUMP, ENCODE, END, EQUAL,
-        FIELD_BITS, FILL, FRAME, HEADER_A, LAST_ADDRESS, LAST_HEADER_A, MESSAGE, NEW, OPERATIONS,
-        PARTS, PUSH, PUT, RESET, STATUS, STORE_BITS, TAKE,
+        self, ACCEPT, ADDRESS, CHECK, COMPLETE, COPY, COUNT, DECODE, DECODE_OCTETS, DUMP, ENCODE,
+        END, EQUAL, FIELD_BITS, FILL, FRAME, HEADER_A, LAST_ADDRESS, LAST_HEADER_A, MESSAGE, NEW,
+        OPERATIONS, PARTS, PUSH, PUT, RESET, STATUS, STORE_BITS, TAKE,
     },
     wire::{self, FRAME_OCTETS, HEADER_OCTETS, PARSED_OCTETS},
 };
 use std::{collections::BTreeSet, fs, io, path::Path, process::ExitCode};
 
+mod lives;
+
 const SEED: u64 = 136;
 /// What `replay` has room for, script and answers alike.
 const MOST_OCTETS: usize = 32_000;
-const RANDOM_OPERATIONS: usize = 200;
+const RANDOM_OPERATIONS: usize = 150;
 const LINE_OCTETS: usize = 32;
 
 pub fn main(folder: &Path) -> ExitCode {
@@ -68,6 +70,8 @@ fn fixed_script() -> Vec<u8> {
     script.decodes();
     script.cuts();
     script.receivers();
+    script.timers();
+    script.procedures();
     let mut random = Random(SEED);
     for _ in 0..RANDOM_OPERATIONS {
         let op = random.pick(&OPERATIONS.each_ref().map(|operation| operation.op));
@@ -389,31 +393,9 @@ impl Script {
         for room in [0, 254, 305, 65535] {
             self.heard(&two[1], room);
         }
-        let good = encoded(&two[1]);
-        for length in [0, 13, 15, 32, 33] {
-            let mut operands = decode_operands(&good);
-            operands[0] = length;
+        for operands in undecoded(two) {
             self.push(PUSH, &[&operands, &pair(255), &[0xaa]]);
         }
-        // Padding, usage, kind and the fourth flag of the Continue; the Begin encrypted, and to nobody.
-        let begin = encoded(&two[0]);
-        let mut nobody = wire::unpack_frame(&begin);
-        set(&mut nobody, 15, 34, 0);
-        let flipped = [
-            (good, 111),
-            (good, 0),
-            (good, 9),
-            (good, 6),
-            (begin, 13),
-            (begin, 14),
-        ];
-        for (frame, place) in flipped {
-            let mut octets = frame;
-            octets[place / 8] ^= 0x80 >> (place % 8);
-            self.push(PUSH, &[&decode_operands(&octets), &pair(255), &[0xaa]]);
-        }
-        let operands = decode_operands(&packed(&nobody));
-        self.push(PUSH, &[&operands, &pair(255), &[0xaa]]);
         // Echo, channel and type of another; a number that is not needed; filler; other data.
         for (place, value) in [(3, 6), (1, 4), (24, 1), (25, 2), (25, 25)] {
             self.heard(&changed(&two[1], place, value), 255);
@@ -431,6 +413,33 @@ impl Script {
         self.push(STATUS, &[]);
         self.push(COMPLETE, &[]);
     }
+}
+/// The operands of frames that decode refuses, the last length of which names no call.
+fn undecoded(frames: &[[u8; PARSED_OCTETS]]) -> Vec<[u8; 1 + DECODE_OCTETS]> {
+    let (begin, good) = (encoded(&frames[0]), encoded(&frames[1]));
+    let lengths = [0, 13, 15, 32, 33].map(|length| {
+        let mut operands = decode_operands(&good);
+        operands[0] = length;
+        operands
+    });
+    // Padding, usage, kind and the fourth flag of the Continue; the Begin with the bit after its type, encrypted, and
+    // to nobody.
+    let flipped = [
+        (good, 111),
+        (good, 0),
+        (good, 9),
+        (good, 6),
+        (begin, 12),
+        (begin, 14),
+    ]
+    .map(|(mut octets, place)| {
+        octets[place / 8] ^= 0x80 >> (place % 8);
+        decode_operands(&octets)
+    });
+    let mut nobody = wire::unpack_frame(&begin);
+    set(&mut nobody, 15, 34, 0);
+    let nobody = decode_operands(&packed(&nobody));
+    [&lengths[..], &flipped, &[nobody]].concat()
 }
 /// The frames of a message, polled.
 fn cut(identity: [u8; 9], message: &[u8]) -> Vec<[u8; PARSED_OCTETS]> {
