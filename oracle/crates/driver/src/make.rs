@@ -22,7 +22,7 @@ mod lives;
 const SEED: u64 = 136;
 /// What `replay` has room for, script and answers alike.
 const MOST_OCTETS: usize = 32_000;
-const RANDOM_OPERATIONS: usize = 150;
+const RANDOM_OPERATIONS: usize = 100;
 const LINE_OCTETS: usize = 32;
 
 pub fn main(folder: &Path) -> ExitCode {

@@ -38,8 +38,8 @@ const WAITS: [Row; 11] = [
     (TIMER_UNSOLICITED, &[8, 123], &[FAILED]),
     (TIMER_SOLICITED, &[8, 124], &[FAILED]),
 ];
-/// A frame, then a solicited result while a status is pending; results that fail.
-const PENDING: [Row; 15] = [
+/// A frame, then a solicited result while a status is pending; a solicited one in the final wait; results that fail.
+const PENDING: [Row; 17] = [
     (TIMER_RECEIVED, &[130], &[]),
     (TIMER_ADVANCE, &[162], &[]),
     (TIMER_RECEIVED, &[163], &[]),
@@ -51,25 +51,24 @@ const PENDING: [Row; 15] = [
     (TIMER_ADVANCE, &[280], &[]),
     (TIMER_UNSOLICITED, &[8, 281], &[GONE]),
     (TIMER_ADVANCE, &[313], &[]),
-    (TIMER_UNSOLICITED, &[8, 314], &[FAILED]),
-    (TIMER_RECEIVED, &[314], &[]),
-    (TIMER_SOLICITED, &[9, 315], &[GONE]),
-    (TIMER_SOLICITED, &[9, 316], &[FAILED]),
+    (TIMER_UNSOLICITED, &[8, 313], &[GONE]),
+    (TIMER_SOLICITED, &[8, 314], &[GONE]),
+    (TIMER_ADVANCE, &[346], &[]),
+    (TIMER_UNSOLICITED, &[8, 347], &[FAILED]),
+    (TIMER_RECEIVED, &[347], &[]),
+    (TIMER_SOLICITED, &[9, 348], &[FAILED]),
 ];
 /// The clock back, foreign tokens before it; a clock at its end.
-const CLOCKS: [Row; 15] = [
-    (TIMER_OBSERVE, &[315], &[]),
-    (TIMER_RECEIVED, &[315], &[]),
-    (TIMER_ADVANCE, &[315], &[]),
-    (TIMER_UNSOLICITED, &[10, 315], &[GONE]),
-    (TIMER_SOLICITED, &[10, 315], &[GONE]),
-    (TIMER_UNSOLICITED, &[9, 315], &[FAILED]),
+const CLOCKS: [Row; 12] = [
+    (TIMER_OBSERVE, &[347], &[]),
+    (TIMER_RECEIVED, &[347], &[]),
+    (TIMER_ADVANCE, &[347], &[]),
+    (TIMER_UNSOLICITED, &[10, 347], &[GONE]),
+    (TIMER_SOLICITED, &[10, 347], &[GONE]),
+    (TIMER_UNSOLICITED, &[9, 347], &[FAILED]),
     (TIMER_SOLICITED, &[11, 400], &[FAILED]),
-    (TIMER_UNSOLICITED, &[10, 316], &[2]),
-    (TIMER_SOLICITED, &[11, 316], &[255]),
-    (TIMER_OWNS, &[10], &[]),
-    (TIMER_OWNS, &[9], &[]),
-    (TIMER_TOKEN, &[], &[]),
+    (TIMER_UNSOLICITED, &[10, 348], &[2]),
+    (TIMER_SOLICITED, &[11, 348], &[255]),
     (TIMER_RESET, &[], &[]),
     (TIMER_RECEIVED, &[LAST - 31], &[]),
     (TIMER_ADVANCE, &[LAST], &[]),
@@ -102,6 +101,10 @@ impl Script {
         for (op, words, octets) in rows {
             let words: Vec<u8> = words.iter().flat_map(|word| word.to_be_bytes()).collect();
             self.lived(*op, &[&words, octets]);
+        }
+        self.push(TIMER_TOKEN, &[]);
+        for number in [LAST, LAST - 1] {
+            self.push(TIMER_OWNS, &[&word(number)]);
         }
     }
     /// Operations that have nothing to work on.
@@ -180,9 +183,11 @@ impl Script {
         self.received(503, &two[1]);
         self.sent(504, 10, SOLICITED, 1, GONE);
     }
-    /// A polled frame and its status while an unsolicited one is pending.
+    /// A frame of another echo, which moves the clock alone; a polled one and its status while an unsolicited one is
+    /// pending.
     fn pending(&mut self, three: &[Parsed]) {
         self.received(1000, &three[0]);
+        self.received(1010, &changed(&three[1], 3, 6));
         self.advanced(1032);
         self.received(1033, &polled(&three[1]));
         self.advanced(1070);
