@@ -32,8 +32,10 @@ pub fn main(seed: u64, count: u64) -> ExitCode {
     let (mut tally, mut events) = (Tally::default(), Events::default());
     while tally.scripts < count {
         let life = Life::new(&mut random, tally.scripts);
+        let operations = life.ends.len();
         match life.case(&mut random).compare() {
             Ok((steps, answers)) => {
+                assert_eq!(steps.len(), operations, "the whole life was lived");
                 tally.add(&steps, &answers);
                 events.add(&steps, &answers);
             }

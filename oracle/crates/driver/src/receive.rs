@@ -15,7 +15,7 @@ use std::process::ExitCode;
 
 /// How many operations a script of `receive` has at most.
 const SCRIPT_OPERATIONS: usize = 400;
-/// More than the longest answer.
+/// More than the longest answer of these operations.
 const ANSWER_OCTETS: usize = 328;
 const LONGEST_MESSAGE: usize = 255;
 const LAST_NUMBER: usize = 25;
