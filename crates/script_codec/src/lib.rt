@@ -71,14 +71,9 @@ pub fn op_count(script: &[u8], at: usize, message: &[u8], answers: &mut [u8], to
     let header = cut.header;
     let identity = cut.identity;
     match arq::cut::fragment_count(header, identity, &message[0..count]) {
-        CountAnswer::Frames(frames) => script_wire::answer_values(
-            answers,
-            to,
-            Value(1, frames as u64),
-            Value(0, 0),
-            Value(0, 0),
-            Value(0, 0),
-        ),
+        CountAnswer::Frames(frames) => {
+            script_wire::reply(answers, to, 0, Value(1, frames as u64))
+        }
         CountAnswer::Refused(error) => script_wire::answer(answers, to, error.number()),
     }
 }

@@ -25,7 +25,7 @@ fn flags_of(octet: u8) -> HeaderFlags {
     }
 }
 
-fn mode_of(octet: u8) -> ResponseMode {
+pub fn mode_of(octet: u8) -> ResponseMode {
     if octet == 0 {
         ResponseMode::Contention
     } else {

@@ -87,7 +87,7 @@ pub fn op_equal(script: &[u8], at: usize, answers: &mut [u8], to: usize) -> usiz
         return script_wire::answer(answers, to, 255);
     };
     let same = Value(1, one.equals(other) as u64);
-    script_wire::answer_values(answers, to, same, Value(0, 0), Value(0, 0), Value(0, 0))
+    script_wire::reply(answers, to, 0, same)
 }
 
 fn answer_identity(answers: &mut [u8], to: usize, identity: MobileIdentity) -> usize

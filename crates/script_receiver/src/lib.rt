@@ -5,7 +5,6 @@ use rach::MobileIdentity;
 use receiver::ArqReassembler;
 use receiver::PushAnswer;
 use receiver::Pushed;
-use receiver::StatusAnswer;
 use script_leaf::identities::Operand;
 use script_wire::Value;
 ghost use Prim.Native.Nat.{_+_, _≤_};
@@ -69,7 +68,7 @@ pub fn op_new(machine: Machine, script: &[u8], at: usize, answers: &mut [u8], to
 }
 
 // A buffer whose first octets, so many as there is room, are the filling.
-fn filled(room: usize, filling: u8) -> [u8; 304]
+pub fn filled(room: usize, filling: u8) -> [u8; 304]
     requires { ⌜ room ≤ 304 ⌝ }
 {
     let mut buffer = [0u8; 304];
@@ -169,23 +168,6 @@ pub fn op_reset(machine: Machine, answers: &mut [u8], to: usize) -> Ran
     }
 }
 
-fn answer_status(answers: &mut [u8], to: usize, status: StatusAnswer) -> usize
-    requires { ⌜ to + 7 ≤ length (now answers) ⌝ }
-    ensures { λ r. ⌜ Answered 7 to r (now (answers .entry)) (now (answers .exit)) ⌝ }
-{
-    match status {
-        StatusAnswer::Nothing => script_wire::answer_octets(answers, to, &[0u8; 6]),
-        StatusAnswer::Status(held) => script_wire::answer_values(
-            answers,
-            to,
-            Value(1, 1),
-            Value(1, held.partial_echo as u64),
-            Value(4, held.received_frames as u64),
-            Value(0, 0),
-        ),
-    }
-}
-
 pub fn op_status(machine: Machine, answers: &mut [u8], to: usize) -> Ran
     requires { ⌜ to + 7 ≤ length (now answers) ⌝ }
     ensures { λ r. ⌜ Answered 7 to (r .answered) (now (answers .entry)) (now (answers .exit)) ⌝ }
@@ -194,7 +176,8 @@ pub fn op_status(machine: Machine, answers: &mut [u8], to: usize) -> Ran
         return no_call(machine, answers, to);
     }
     let receiver = machine.receiver;
-    let length = answer_status(answers, to, receiver.status());
+    let status = values::held_octets(receiver.status());
+    let length = script_wire::answer_octets(answers, to, &status);
     Ran {
         machine: machine,
         answered: length,
@@ -210,14 +193,7 @@ pub fn op_complete(machine: Machine, answers: &mut [u8], to: usize) -> Ran
     }
     let receiver = machine.receiver;
     let complete = Value(1, receiver.complete() as u64);
-    let length = script_wire::answer_values(
-        answers,
-        to,
-        complete,
-        Value(0, 0),
-        Value(0, 0),
-        Value(0, 0),
-    );
+    let length = script_wire::reply(answers, to, 0, complete);
     Ran {
         machine: machine,
         answered: length,

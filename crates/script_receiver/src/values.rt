@@ -1,8 +1,10 @@
 // Receptions as values of an answer.
+use receiver::ArqStatus;
 use receiver::Delivery;
 use receiver::Reception;
 use receiver::Request;
 use receiver::SingleMessage;
+use receiver::StatusAnswer;
 use receiver::StatusRequest;
 ghost use Prim.Native.Nat.{_+_, _≤_};
 ghost use lib.ListN.{length};
@@ -47,14 +49,27 @@ fn with_delivery(octets: [u8; 22], delivery: Delivery) -> [u8; 22] {
     }
 }
 
+// One, echo and map.
+pub fn status_octets(status: ArqStatus) -> [u8; 6] {
+    let mut b = [1, status.partial_echo, 0, 0, 0, 0];
+    script_wire::put_number(&mut b, 2, 4, status.received_frames as u64);
+    b
+}
+
+// The same, or zeros if nothing is held.
+pub fn held_octets(status: StatusAnswer) -> [u8; 6] {
+    match status {
+        StatusAnswer::Nothing => [0u8; 6],
+        StatusAnswer::Status(held) => status_octets(held),
+    }
+}
+
 fn with_status(octets: [u8; 22], request: StatusRequest) -> [u8; 22] {
     let status = request.status;
     let mode = request.response_mode;
-    let front = [1, status.partial_echo];
+    let front = status_octets(status);
     let last = [script_codec::values::mode_octet(mode)];
-    let a = with_octets(octets, 14, &front);
-    let b = with_number(a, 16, 4, status.received_frames as u64);
-    with_octets(b, 20, &last)
+    with_octets(with_octets(octets, 14, &front), 20, &last)
 }
 
 fn with_request(octets: [u8; 22], request: Request) -> [u8; 22] {

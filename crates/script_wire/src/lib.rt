@@ -102,6 +102,17 @@ pub fn answer(answers: &mut [u8], to: usize, number: u8) -> usize
     1
 }
 
+// What a call gave: a refusal's number alone, or the number octet 0 and the value after it.
+pub fn reply(answers: &mut [u8], to: usize, number: u8, value: Value) -> usize
+    requires { ⌜ (to + (1 + value .0) ≤ length (now answers)) × (value .0 ≤ 8) ⌝ }
+    ensures { λ r. ⌜ Answered (1 + value .0) to r (now (answers .entry)) (now (answers .exit)) ⌝ }
+{
+    if number != 0 {
+        return answer(answers, to, number);
+    }
+    answer_values(answers, to, value, Value(0, 0), Value(0, 0), Value(0, 0))
+}
+
 // The number octet 0, and octets after it.
 pub fn answer_octets(answers: &mut [u8], to: usize, octets: &[u8]) -> usize
     requires { ⌜ to + (1 + length (now octets)) ≤ length (now answers) ⌝ }
