@@ -1,5 +1,4 @@
 // The port's side of the differential test: runs a script of operations and answers in octets.
-mod table;
 mod timing;
 
 use script_leaf::headers;
@@ -9,7 +8,7 @@ use script_receiver::Ran;
 ghost use mathlib.Core.Path.{_≡_};
 ghost use Prim.Native.Nat.{_+_, _≤_};
 ghost use lib.ListN.{length, drop};
-ghost use Rattle.script.specs.Table.{operandsOf, longestOf};
+ghost use Rattle.script_table.specs.Table.{operandsOf, longestOf};
 ghost use Rattle.script_wire.specs.Answer.{Ready, Answered};
 
 // Operations 1 to 4.
@@ -116,31 +115,47 @@ fn run(
     run_codec(op, script, at, message, answers, to)
 }
 
-// One operation; the machine after it, and how many octets it answered.
-fn step(
-    op: u8,
-    script: &[u8],
-    at: usize,
-    store: &mut [u8],
-    message: &mut [u8],
-    machine: Machine,
-    answers: &mut [u8],
-    to: usize,
-) -> Ran
-    requires { ⌜ Ready (operandsOf op) (longestOf op) at to (now script) (now answers) × (length (now store) ≡ 64) × (length (now message) ≡ 304) × (1 ≤ longestOf op) ⌝ }
-    ensures { λ r. ⌜ Answered (longestOf op) to (r .answered) (now (answers .entry)) (now (answers .exit)) ⌝ }
+// Runs the script on a store and a message of zeros, without a receiver, a timer or a procedure. How many octets were answered, the
+// end octet with them; all others stay.
+fn run_all(script: &[u8], answers: &mut [u8]) -> usize
+    requires { ⌜ 1 ≤ length (now answers) ⌝ }
+    ensures { λ r. ⌜ (r ≤ length (now (answers .entry))) × (drop r (now (answers .exit)) ≡ drop r (now (answers .entry))) ⌝ }
 {
-    if 16 < op {
-        return run_receiver(op, machine, script, at, answers, to);
+    let mut store = [0u8; 64];
+    let mut message = [0u8; 304];
+    let mut machine = script_receiver::no_receiver();
+    let mut timer = script_inactivity::no_timer();
+    let mut procedure = script_procedure::no_procedure();
+    let mut at: usize = 0;
+    let mut to: usize = 0;
+    while at < script.len() {
+        let op = script[at];
+        let from = at + 1;
+        let end = script_table::ended(op, script.len() - from, answers.len() - to);
+        if end != 0 {
+            return to + script_wire::answer(answers, to, end);
+        }
+        at = from + script_table::operands(op);
+        if op < 17 {
+            to += run(op, script, from, &mut store, &mut message, answers, to);
+        } else if op < 22 {
+            let ran = run_receiver(op, machine, script, from, answers, to);
+            machine = ran.machine;
+            to += ran.answered;
+        } else if op < 32 {
+            let ran = script_inactivity::run(op, timer, script, from, answers, to);
+            timer = ran.slot;
+            to += ran.answered;
+        } else {
+            let ran = script_procedure::run(op, procedure, script, from, answers, to);
+            procedure = ran.slot;
+            to += ran.answered;
+        }
     }
-    let answered = run(op, script, at, store, message, answers, to);
-    Ran {
-        machine: machine,
-        answered: answered,
-    }
+    to + script_wire::answer(answers, to, 0xe0)
 }
 
-// Runs the script on a store and a message of zeros, without a receiver. How many octets were answered, the end octet with them; all others stay.
+// The protocol's call; nothing is written to a buffer of length 0.
 #[no_mangle]
 pub extern "C" fn script_run(script: &[u8], answers: &mut [u8]) -> usize
     ensures { λ r. ⌜ (r ≤ length (now (answers .entry))) × (drop r (now (answers .exit)) ≡ drop r (now (answers .entry))) ⌝ }
@@ -148,31 +163,5 @@ pub extern "C" fn script_run(script: &[u8], answers: &mut [u8]) -> usize
     if answers.len() == 0 {
         return 0;
     }
-    let mut store = [0u8; 64];
-    let mut message = [0u8; 304];
-    let mut machine = script_receiver::no_receiver();
-    let mut at: usize = 0;
-    let mut to: usize = 0;
-    while at < script.len() {
-        let op = script[at];
-        at += 1;
-        let end = table::ended(op, script.len() - at, answers.len() - to);
-        if end != 0 {
-            return to + script_wire::answer(answers, to, end);
-        }
-        let ran = step(
-            op,
-            script,
-            at,
-            &mut store,
-            &mut message,
-            machine,
-            answers,
-            to,
-        );
-        machine = ran.machine;
-        to += ran.answered;
-        at += table::operands(op);
-    }
-    to + script_wire::answer(answers, to, 0xe0)
+    run_all(script, answers)
 }

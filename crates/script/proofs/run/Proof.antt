@@ -1,7 +1,7 @@
 -- `run` meets its contract: each group of operations has its own function. Assumes nothing.
 use native.Mathlib.Omega.{arith}
-use Rattle.script.specs.Table.{operandsOf, longestOf}
-use Rattle.script.proofs.Laws.{ready, answered}
+use Rattle.script_table.specs.Table.{operandsOf, longestOf}
+use Rattle.script_table.proofs.Laws.{ready, answered}
 use borrow.Author.Needs.{needs}
 use Rattle.script.proofs.run.Statement.{statement}
 use Rattle.script.proofs.run.Tie as tie
