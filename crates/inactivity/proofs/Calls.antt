@@ -1,5 +1,5 @@
 -- The ways through a call of the timer that may be refused. Assumes nothing.
-use mathlib.Core.Path.{_≡_, sym, ap, _∙_}
+use mathlib.Core.Path.{_≡_, sym, ap, subst, _∙_}
 use mathlib.Core.Bool.{Bool, true, false, not}
 use Prim.Native.Nat.{ℕ, _≤_}
 use native.Mathlib.Omega.{arith}
@@ -7,7 +7,7 @@ use lib.Dec.{ltb}
 use borrow.Author.Tests.{ltb-false, not-true, not-false}
 use Rattle.token.specs.Token.{fewerThan}
 use Rattle.spach.specs.Refusal.{Outcome, gives, refuses, After, onward}
-use Rattle.spach.proofs.Outcomes.{passed}
+use Rattle.spach.proofs.Outcomes.{passed, then-gives}
 use Rattle.inactivity.specs.declared.TransactionToken.{TransactionToken}
 use Rattle.inactivity.specs.declared.InactivityAction.{InactivityAction}
 use Rattle.inactivity.specs.declared.InactivityAction.the-variants.{None}
@@ -46,14 +46,19 @@ ticked-gives s b {t} e =
     let z : clocked s b ≡ t = cc in
     (sym z, ltb-false b (s .«last_block») (p .0))
 
-pub admitted-gives : (s : ArqInactivity) (b : ℕ) {t : ArqInactivity} → admitted s b ≡ gives t → (fewerThan 4 (s .«next_token») ≡ false) × (t ≡ clocked s b) × (s .«last_block» ≤ b)
-admitted-gives s b e =
-    let p = passed _ 18 (ticked s b) e in
-    let q = ticked-gives s b (p .1) in
-    (p .0, q .0, q .1)
-
 pub enough-gives : (s : ArqInactivity) {t : ArqInactivity} → enough s ≡ gives t → (fewerThan 4 (s .«next_token») ≡ false) × (t ≡ s)
-enough-gives s {t} e = let p = passed _ 18 (gives s) e in (p .0, (let z : s ≡ t = let w = p .1 in cc in sym z))
+enough-gives s {t} e =
+    let p = passed (fewerThan 4 (s .«next_token»)) 18 (gives s) e in
+    let w : gives s ≡ gives t = p .1 in
+    let z : s ≡ t = cc in
+    (p .0, sym z)
+
+pub admitted-gives : (s : ArqInactivity) (b : ℕ) {t : ArqInactivity} → admitted s b ≡ gives t → (fewerThan 4 (s .«next_token») ≡ false) × (t ≡ clocked s b) × (s .«last_block» ≤ b)
+admitted-gives s b {t} e =
+    let a = then-gives (enough s) (λ u. ticked u b) e in
+    let n = enough-gives s (a .1) in
+    let q = ticked-gives s b (subst (λ u. ticked u b ≡ gives t) (n .1) (a .2)) in
+    (n .0, q .0, q .1)
 
 -- a result whose token is foreign, one that is refused, and one that is taken
 pub reported-foreign : (s : ArqInactivity) (t : TransactionToken) (b : ℕ) (f : ArqInactivity → Turn) (o : Bool) {x : After InactivityAction ArqInactivity} → o ≡ ownsOf s t → not o ≡ true → x ≡ acts (turn None s) → x ≡ reported s t b f

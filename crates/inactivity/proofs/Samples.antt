@@ -1,5 +1,6 @@
 -- 01's lines on 31 and 32 blocks, and the last four tokens, computed on the definitions. Assumes nothing.
 use mathlib.Core.Path.{_≡_, refl}
+use mathlib.Core.Bool.{true}
 use Prim.Native.Nat.{ℕ, _-_}
 use Rattle.token.specs.Token.{stop}
 use Rattle.spach.specs.Refusal.{gives, refuses}
@@ -7,7 +8,7 @@ use Rattle.inactivity.specs.declared.InactivityAction.the-variants.{None
 use Rattle.inactivity.specs.declared.StatusResult.the-variants.{Sent, Failed}
 use Rattle.inactivity.specs.declared.State.the-variants.{Waiting, FinalWait}
 use Rattle.inactivity.specs.declared.ArqInactivity.{ArqInactivity}
-use Rattle.inactivity.specs.Inactivity.{newOf, resetOf, observeOf, receivedFrameOf, advanceOf, unsolicitedOf, solicitedOf}
+use Rattle.inactivity.specs.Inactivity.{newOf, renewed, clocked, turn, acts, done, resetOf, observeOf, receivedFrameOf, advanceOf, unsolicitedOf, solicitedOf}
 
 -- a frame at block 100, under token 7
 abbrev waits : ArqInactivity
@@ -36,13 +37,25 @@ pub settled : (advanceOf waits 131 .outcome ≡ gives None)
     × (advanceOf told 182 .outcome ≡ gives Terminate)
     × (advanceOf told 182 .state .transaction .0 ≡ 8)
     × (solicitedOf told (record { 0 = 7 }) 160 Sent .state .state ≡ Waiting 160)
-    × (unsolicitedOf told (record { 0 = 6 }) 0 Failed .outcome ≡ gives None)
+    × (unsolicitedOf asked (record { 0 = 6 }) 900 Failed ≡ acts (turn None asked))
+    × (solicitedOf asked (record { 0 = 6 }) 900 Failed ≡ acts (turn None asked))
+    × (unsolicitedOf asked (record { 0 = 7 }) 150 Failed ≡ acts (turn Terminate (renewed (clocked asked 150))))
+    × (solicitedOf asked (record { 0 = 7 }) 150 Failed ≡ acts (turn Terminate (renewed (clocked asked 150))))
+    × (unsolicitedOf waits (record { 0 = 7 }) 150 Failed ≡ acts (turn None (clocked waits 150)))
+    × (solicitedOf (newOf 7) (record { 0 = 7 }) 150 Failed ≡ acts (turn None (clocked (newOf 7) 150)))
+    × (solicitedOf asked (record { 0 = 7 }) 150 Sent .state .«unsolicited_pending» ≡ true)
+    × (unsolicitedOf heard (record { 0 = 7 }) 150 Sent .state .state ≡ Waiting 150)
+    × (resetOf asked ≡ done (renewed asked))
     × (unsolicitedOf told (record { 0 = 7 }) 149 Failed .outcome ≡ refuses 17)
     × (observeOf told 149 .outcome ≡ refuses 17)
     × (advanceOf (left 4) 132 .outcome ≡ gives RequestUnsolicitedStatus)
+    × (resetOf (left 4) .outcome ≡ gives tt)
+    × (unsolicitedOf (advanceOf (left 4) 132 .state) (left 4 .transaction) 140 Failed .outcome ≡ gives Terminate)
     × (advanceOf (left 3) 99 .outcome ≡ refuses 18)
+    × (solicitedOf (left 3) (left 3 .transaction) 99 Sent .outcome ≡ refuses 18)
+    × (solicitedOf (left 3) (record { 0 = 0 }) 99 Sent .outcome ≡ gives None)
     × (resetOf (left 3) .outcome ≡ refuses 18)
     × (observeOf (left 3) 132 .outcome ≡ gives tt)
     × (newOf stop .«next_token» ≡ stop)
 unfolding resetOf observeOf receivedFrameOf advanceOf unsolicitedOf solicitedOf
-settled = (refl, refl, refl, refl, refl, refl, refl, refl, refl, refl, refl, refl, refl, refl, refl, refl)
+settled = (refl, refl, refl, refl, refl, refl, refl, refl, refl, refl, refl, refl, refl, refl, refl, refl, refl, refl, refl, refl, refl, refl, refl, refl, refl, refl, refl, refl)

@@ -3,8 +3,8 @@ use mathlib.Core.Path.{_≡_}
 use mathlib.Core.Bool.{Bool, true, false, cond, not, _&&_}
 use Prim.Native.Nat.{ℕ, _-_, _≤_, _<_}
 use lib.Dec.{eqb, ltb, leb}
-use Rattle.token.specs.Token.{stop, after, fewerThan}
-use Rattle.spach.specs.Refusal.{numberOf, Outcome, gives, refuses, refuse, verdictOf, After, onward}
+use Rattle.token.specs.Token.{stop, numberAfter, fewerThan}
+use Rattle.spach.specs.Refusal.{numberOf, Outcome, gives, refuses, refuse, andThen, verdictOf, After, onward}
 use Rattle.inactivity.specs.declared.TransactionToken.{TransactionToken}
 use Rattle.inactivity.specs.declared.InactivityAction.{InactivityAction}
 use Rattle.inactivity.specs.declared.InactivityAction.the-variants.{None, RequestUnsolicitedStatus, Terminate}
@@ -32,7 +32,7 @@ use Rattle.inactivity.specs.declared.Admission.the-variants as admission
 
 -- what the constructor makes with the first token number
 abbrev pub newOf : ℕ → ArqInactivity
-newOf first = record { state = Idle; «last_block» = 0; «unsolicited_pending» = false; transaction = record { 0 = first }; «next_token» = after first }
+newOf first = record { state = Idle; «last_block» = 0; «unsolicited_pending» = false; transaction = record { 0 = first }; «next_token» = numberAfter first }
 
 -- the token is that of the present transaction; else it is foreign
 abbrev pub ownsOf : ArqInactivity → TransactionToken → Bool
@@ -40,7 +40,7 @@ ownsOf s t = eqb (t .0) (s .transaction .0)
 
 -- reset as the Rust has it, inner resets too: idle, under the next token
 abbrev pub renewed : ArqInactivity → ArqInactivity
-renewed s = record { state = Idle; «last_block» = s .«last_block»; «unsolicited_pending» = false; transaction = record { 0 = s .«next_token» }; «next_token» = after (s .«next_token») }
+renewed s = record { state = Idle; «last_block» = s .«last_block»; «unsolicited_pending» = false; transaction = record { 0 = s .«next_token» }; «next_token» = numberAfter (s .«next_token») }
 
 -- the clock moved to a block
 abbrev pub clocked : ArqInactivity → ℕ → ArqInactivity
@@ -66,7 +66,7 @@ ticked s b = refuse (ltb b (s .«last_block»)) 17 (gives (clocked s b))
 
 -- 18, then 17; then the clock is moved
 abbrev pub admitted : ArqInactivity → ℕ → Outcome ArqInactivity
-admitted s b = refuse (fewerThan 4 (s .«next_token»)) 18 (ticked s b)
+admitted s b = andThen (enough s) (λ t. ticked t b)
 
 -- ---- the calls
 
@@ -91,7 +91,7 @@ observeOf s b = onward s (ticked s b) done
 unfoldable pub receivedFrameOf : ArqInactivity → ℕ → After Unit ArqInactivity
 receivedFrameOf s b = onward s (ticked s b) (λ t. done (waiting t))
 
--- 32 blocks have passed since a block
+-- IS-136.1-A 5.4.2.2: 32 blocks have passed since a block
 abbrev pub elapsed : ArqInactivity → ℕ → Bool
 elapsed s since = leb 32 (s .«last_block» - since)
 

@@ -207,16 +207,16 @@ impl ArqInactivity {
     }
 
     // Fewer than 4 tokens left 18, then the clock gone back 17; else the clock is moved.
-    pub fn admit(mut self, block: u64) -> Admission
-        ensures { λ r. ⌜ admission r ≡ admitted self block ⌝ }
+    pub fn admit(mut self, tdma_block: u64) -> Admission
+        ensures { λ r. ⌜ admission r ≡ admitted self «tdma_block» ⌝ }
     {
         if token::fewer_than(4, self.next_token) {
             return Admission::Refused(ProcedureError::Wire(SpachError::Tokens));
         }
-        if block < self.last_block {
+        if tdma_block < self.last_block {
             return Admission::Refused(ProcedureError::Clock(InactivityError::ClockBackwards));
         }
-        self.last_block = block;
+        self.last_block = tdma_block;
         Admission::Admitted(self)
     }
 
@@ -238,11 +238,11 @@ impl ArqInactivity {
     }
 
     // For a matching accepted frame, only while message frames remain pending.
-    pub fn received_frame(self, block: u64) -> Observed
+    pub fn received_frame(self, tdma_block: u64) -> Observed
         requires { ⌜ Sound self ⌝ }
-        ensures { λ r. ⌜ (observed r ≡ receivedFrameOf self block) × Sound (r .timer) ⌝ }
+        ensures { λ r. ⌜ (observed r ≡ receivedFrameOf self «tdma_block») × Sound (r .timer) ⌝ }
     {
-        let seen = self.observe(block);
+        let seen = self.observe(tdma_block);
         let answer = seen.answer;
         if let ClockAnswer::Refused(_) = answer {
             return seen;
@@ -292,12 +292,12 @@ impl ArqInactivity {
         }
     }
 
-    // Both inactivity intervals are 32 blocks.
-    pub fn advance(self, block: u64) -> Acted
+    // IS-136.1-A 5.4.2.2: both inactivity intervals are 32 TDMA blocks.
+    pub fn advance(self, tdma_block: u64) -> Acted
         requires { ⌜ Sound self ⌝ }
-        ensures { λ r. ⌜ (acted r ≡ advanceOf self block) × Sound (r .timer) ⌝ }
+        ensures { λ r. ⌜ (acted r ≡ advanceOf self «tdma_block») × Sound (r .timer) ⌝ }
     {
-        let admission = self.admit(block);
+        let admission = self.admit(tdma_block);
         match admission {
             Admission::Refused(error) => refuse(self, error),
             Admission::Admitted(timer) => act(timer.due()),
@@ -359,16 +359,16 @@ impl ArqInactivity {
         self,
         solicited: bool,
         token: TransactionToken,
-        block: u64,
+        tdma_block: u64,
         result: StatusResult,
     ) -> Acted
         requires { ⌜ Sound self ⌝ }
-        ensures { λ r. ⌜ (acted r ≡ reported self token block (resultAt solicited result)) × Sound (r .timer) ⌝ }
+        ensures { λ r. ⌜ (acted r ≡ reported self token «tdma_block» (resultAt solicited result)) × Sound (r .timer) ⌝ }
     {
         if !self.owns(token) {
             return act(turned(self, InactivityAction::None));
         }
-        let admission = self.admit(block);
+        let admission = self.admit(tdma_block);
         match admission {
             Admission::Refused(error) => refuse(self, error),
             Admission::Admitted(timer) => act(timer.result_at(solicited, result)),
@@ -378,38 +378,38 @@ impl ArqInactivity {
     pub fn unsolicited_status_result(
         self,
         token: TransactionToken,
-        block: u64,
+        tdma_block: u64,
         result: StatusResult,
     ) -> Acted
         requires { ⌜ Sound self ⌝ }
-        ensures { λ r. ⌜ (acted r ≡ unsolicitedOf self token block result) × Sound (r .timer) ⌝ }
+        ensures { λ r. ⌜ (acted r ≡ unsolicitedOf self token «tdma_block» result) × Sound (r .timer) ⌝ }
     {
-        self.status_result(false, token, block, result)
+        self.status_result(false, token, tdma_block, result)
     }
 
     pub fn solicited_status_result(
         self,
         token: TransactionToken,
-        block: u64,
+        tdma_block: u64,
         result: StatusResult,
     ) -> Acted
         requires { ⌜ Sound self ⌝ }
-        ensures { λ r. ⌜ (acted r ≡ solicitedOf self token block result) × Sound (r .timer) ⌝ }
+        ensures { λ r. ⌜ (acted r ≡ solicitedOf self token «tdma_block» result) × Sound (r .timer) ⌝ }
     {
-        self.status_result(true, token, block, result)
+        self.status_result(true, token, tdma_block, result)
     }
 
-    pub fn observe(mut self, block: u64) -> Observed
+    pub fn observe(mut self, tdma_block: u64) -> Observed
         requires { ⌜ Sound self ⌝ }
-        ensures { λ r. ⌜ (observed r ≡ observeOf self block) × Sound (r .timer) ⌝ }
+        ensures { λ r. ⌜ (observed r ≡ observeOf self «tdma_block») × Sound (r .timer) ⌝ }
     {
-        if block < self.last_block {
+        if tdma_block < self.last_block {
             return Observed {
                 timer: self,
                 answer: ClockAnswer::Refused(InactivityError::ClockBackwards),
             };
         }
-        self.last_block = block;
+        self.last_block = tdma_block;
         Observed {
             timer: self,
             answer: ClockAnswer::Moved,

@@ -1,11 +1,20 @@
 -- What holds over any list of calls from a fresh procedure. Assumes nothing.
 use mathlib.Core.Path.{_≡_, refl, sym, ap, subst, _∙_}
-use mathlib.Core.Bool.{true, false}
+use mathlib.Core.Bool.{Bool, true, false}
 use mathlib.Core.List.{List, [], _∷_}
 use mathlib.Core.Logic.{_⊎_, inl, inr, ⊎-elim}
 use Prim.Native.Nat.{ℕ, _+_, _-_, _≤_, _<_}
 use native.Mathlib.Omega.{arith}
-use borrow.Author.Tests.{leb-true, leb-false, eqb-false, eq-eqb, ne-eqb}
+use borrow.Author.Tests.{leb-true, leb-false, eq-eqb, ne-eqb}
+use Rattle.token.specs.Token.{stop}
+use Rattle.arq.specs.declared.FrameKind.{FrameKind}
+use Rattle.arq.specs.declared.FrameKind.the-variants.{Begin, Continue}
+use Rattle.arq.specs.declared.ArqFrame.{ArqFrame}
+use Rattle.arq.specs.Encode.{byKind}
+use Rattle.arq.specs.Decode.{decodeOf}
+use Rattle.receiver.specs.declared.ArqReassembler.{ArqReassembler}
+use Rattle.receiver.specs.declared.Request.{Request}
+use Rattle.receiver.specs.declared.Request.the-variants as requests
 use Rattle.spach.specs.Refusal.{gives, refuses, After}
 use Rattle.receiver.specs.declared.Delivery.{Delivery}
 use Rattle.receiver.specs.Receiver.{completeOf}
@@ -25,10 +34,10 @@ use Rattle.procedure.specs.declared.TimerEvent.the-variants.{None, SendS
 use Rattle.procedure.specs.declared.SendEvent.{SendEvent}
 use Rattle.procedure.specs.declared.SendEvent.the-variants as sends
 use Rattle.procedure.specs.declared.ArqProcedure.{ArqProcedure}
-use Rattle.procedure.specs.Procedure.{Sound, withTimer, says, accepted, dueAt, advanceOf, reported, statusSentOf}
-use Rattle.procedure.specs.History.{Call, receive, advance, statusSent, reset, after, runs, Each, AcceptsFrame, Taken, AcceptsResult, AcceptsUnsolicited, Resets, present, Pending, NoSecond, Silent, EndsAt32, ForeignForEver}
+use Rattle.procedure.specs.Procedure.{Sound, withTimer, ended, activeOf, timed, rests, says, accepted, dueAt, advanceOf, reported, statusSentOf}
+use Rattle.procedure.specs.History.{Call, receive, advance, statusSent, reset, after, runs, Each, AcceptsFrame, Taken, AcceptsResult, AcceptsUnsolicited, Resets, EndsTransaction, present, Pending, NoSecond, Silent, EndsAt32, ForeignForEver}
 use Rattle.procedure.proofs.Kept.{sound-new, sound-receive, sound-advance, sound-status-sent, sound-reset}
-use Rattle.procedure.proofs.Ways.{reset-ways, due-ways, advance-ways, sent-ways, receive-ways}
+use Rattle.procedure.proofs.Ways.{Clocked, reset-ways, due-ways, advance-ways, sent-ways, receive-ways}
 use Rattle.procedure.proofs.Steps.{tok, pends, Turnout, renews, keeps, newer, owned, at, turnout}
 
 -- ---- over a list
@@ -79,14 +88,66 @@ sent-foreign : (p : ArqProcedure) (b : ℕ) (x : StatusTransmission) (r : Status
 unfolding statusSentOf
 sent-foreign p b x r e = rw e
 
+-- what ends a transaction takes another token
+module _ (p : ArqProcedure) (s : Sound p) where
+  abbrev Later : ArqProcedure → Type 0
+  Later q = tok (p .inactivity) < tok (q .inactivity)
+
+  -- an accepted frame: a Begin takes one, and so does the end of a complete message
+  accepted-later : (block : ℕ) (q : ArqProcedure) → Clocked p block q → (f : ArqFrame) (m : Delivery) (r : Request) (x : ArqReassembler) → x .transaction .held ≡ true
+      → let a = accepted (byKind (f .kind) true false) m r (record { receiver = x; inactivity = q .inactivity }) in (f .kind ≡ Begin) ⊎ (activeOf (a .state) ≡ false) → Later (a .state)
+  unfolding accepted
+  accepted-later block q c f m r x held = at (λ z. let a = accepted (byKind (f .kind) true false) m r (record { receiver = x; inactivity = z .inactivity }) in (f .kind ≡ Begin) ⊎ (activeOf (a .state) ≡ false) → Later (a .state)) c (by (f .kind) (completeOf x) r)
+    where
+      n : (tok (p .inactivity) < p .inactivity .«next_token») × (p .inactivity .«next_token» < stop)
+      n = newer (p .inactivity) (s .inactivity) (c .tokens)
+
+      by : (k : FrameKind) (complete : Bool) (r : Request)
+          → let q = rests r complete (record { receiver = x; inactivity = timed (byKind k true false) complete (clocked (p .inactivity) block) }) in (k ≡ Begin) ⊎ (activeOf q ≡ false) → Later q
+      by Begin true requests.Nothing e = let y = n .0 in let z = n .1 in omega arith
+      by Begin false requests.Nothing e = n .0
+      by Begin true (requests.Status r) e = n .0
+      by Begin false (requests.Status r) e = n .0
+      by Continue true requests.Nothing e = n .0
+      by Continue false requests.Nothing (inl e) = absurd (let w : _≡_ {A = ℕ} 0 1 = cc in omega arith)
+      by Continue false requests.Nothing (inr e) = absurd (let v = sym held ∙ e in let w : _≡_ {A = ℕ} 0 1 = cc in omega arith)
+      by Continue true (requests.Status r) (inl e) = absurd (let w : _≡_ {A = ℕ} 0 1 = cc in omega arith)
+      by Continue true (requests.Status r) (inr e) = absurd (let v = sym held ∙ e in let w : _≡_ {A = ℕ} 0 1 = cc in omega arith)
+      by Continue false (requests.Status r) (inl e) = absurd (let w : _≡_ {A = ℕ} 0 1 = cc in omega arith)
+      by Continue false (requests.Status r) (inr e) = absurd (let v = sym held ∙ e in let w : _≡_ {A = ℕ} 0 1 = cc in omega arith)
+
+  ends-later : (c : Call) → EndsTransaction p c → Later (after p c)
+  ends-later (receive block xs b) e =
+      receive-ways (λ o q. (m : Delivery) (x : Transmission) → o ≡ gives (receives.Accepted m x) → ((f : ArqFrame) × (decodeOf xs ≡ gives f) × (f .kind ≡ Begin)) ⊎ (activeOf q ≡ false) → Later q) p block xs b
+      (λ n m x z u. absurd (let w : _≡_ {A = ℕ} 0 1 = cc in omega arith)) (λ q n c m x z u. absurd (let w : _≡_ {A = ℕ} 0 1 = cc in omega arith)) (λ q c m x z u. absurd (let w : _≡_ {A = ℕ} 0 1 = cc in omega arith))
+      (λ q c f d m r x h n y z u. accepted-later block q c f m r x h (⊎-elim (λ v. inl (same-kind f (v .0) d (v .1) (v .2))) inr u)) (e .0 .0) (e .0 .1) (e .0 .2) (e .1)
+    where
+      same-kind : (f g : ArqFrame) → decodeOf xs ≡ gives f → decodeOf xs ≡ gives g → g .kind ≡ Begin → f .kind ≡ Begin
+      same-kind f g d v k = let w : gives f ≡ gives g = sym d ∙ v in let z : f ≡ g = cc in ap (λ (x : ArqFrame). x .kind) z ∙ k
+  ends-later (advance b) e =
+      advance-ways (λ a. a .outcome ≡ gives Terminated → Later (a .state)) p b (λ n z. absurd (let w : _≡_ {A = ℕ} 0 1 = cc in omega arith))
+      (λ q c. at (λ z. dueAt z .outcome ≡ gives Terminated → Later (dueAt z .state)) c
+      (due-ways (λ a. a .outcome ≡ gives Terminated → Later (a .state)) (withTimer p (clocked (p .inactivity) b)) (λ k z. absurd (let w : _≡_ {A = ℕ} 0 1 = cc in omega arith))
+      (λ since st k f z. absurd (let w : _≡_ {A = ℕ} 0 1 = cc in omega arith)) (λ since st k z. let n = newer (p .inactivity) (s .inactivity) (c .tokens) in let x = n .0 in let y = n .1 in omega arith))) e
+  ends-later (statusSent b x r) e =
+      sent-ways (λ a. (a .outcome ≡ gives sends.Complete) ⊎ (a .outcome ≡ gives sends.Failed) → Later (a .state)) p b x r (λ o z. absurd (neither (λ v. let w : _≡_ {A = ℕ} 0 1 = cc in omega arith) (λ v. let w : _≡_ {A = ℕ} 0 1 = cc in omega arith) z))
+      (λ n z. absurd (neither (λ v. let w : _≡_ {A = ℕ} 0 1 = cc in omega arith) (λ v. let w : _≡_ {A = ℕ} 0 1 = cc in omega arith) z))
+      (λ q o c f g z. at (λ y. Later (ended y)) c (newer (p .inactivity) (s .inactivity) (c .tokens) .0))
+      (λ q o c z. absurd (neither (λ v. let w : _≡_ {A = ℕ} 0 1 = cc in omega arith) (λ v. let w : _≡_ {A = ℕ} 0 1 = cc in omega arith) z)) e
+    where
+      neither : {A B : Type 0} → (A → ⊥) → (B → ⊥) → A ⊎ B → ⊥
+      neither f g (inl a) = f a
+      neither f g (inr b) = g b
+  ends-later reset e =
+      reset-ways (λ a. a .outcome ≡ gives tt → Later (a .state)) p (λ n z. absurd (let w : _≡_ {A = ℕ} 0 1 = cc in omega arith)) (λ t z. newer (p .inactivity) (s .inactivity) t .0) e
+
 pub foreign-for-ever : ForeignForEver
-foreign-for-ever i first fresh e before since later gone =
+foreign-for-ever i first fresh e before c ends later =
     let p = runs fresh before in
-    let q = runs p since in
     let s = sound-runs fresh before (sound-new i first e) in
-    let l : tok (p .inactivity) ≤ tok (q .inactivity) = tokens-rise p since s in
-    let n : tok (p .inactivity) ≡ tok (q .inactivity) → ⊥ = eqb-false (tok (p .inactivity)) (tok (q .inactivity)) gone in
-    let m : tok (q .inactivity) ≤ tok (runs q later .inactivity) = tokens-rise q later (sound-runs p since s) in
+    let q = after p c in
+    let l : tok (p .inactivity) < tok (q .inactivity) = ends-later p s c ends in
+    let m : tok (q .inactivity) ≤ tok (runs q later .inactivity) = tokens-rise q later (sound-after p c s) in
     let f : ownsOf (runs q later .inactivity) (present p) ≡ false = foreign (runs q later) (present p) (omega arith) in
     (f, λ b x r k. sent-foreign (runs q later) b x r (rw k f))
 
@@ -148,7 +209,7 @@ receive-lull : (p : ArqProcedure) (block : ℕ) (xs b : List ℕ) → (AcceptsFr
 unfolding accepted
 receive-lull p block xs b n =
     receive-ways (λ o q. ((m : Delivery) (x : Transmission) → o ≡ gives (receives.Accepted m x) → ⊥) → Lull p ⊥ q) p block xs b (λ k f. unmoved p) (λ q k c f. calm block (c .later) (c .here)) (λ q c f. calm block (c .later) (c .here))
-    (λ q c begin m r s f. absurd (f m _ refl)) (λ m x e. n (m, x, e))
+    (λ q c g d m r s h f. absurd (f m _ refl)) (λ m x e. n (m, x, e))
 
 sent-lull : (p : ArqProcedure) (b : ℕ) (x : StatusTransmission) (r : StatusResult) → (AcceptsResult (present p) p (statusSent b x r) → ⊥) → Lull p ⊥ (after p (statusSent b x r))
 sent-lull p b x r n =
@@ -251,7 +312,7 @@ reported-sent p d x r s g u =
 -- an advance in the final wait
 module _ (p : ArqProcedure) (s : Sound p) (k : TransactionToken) (d c : ℕ) where
   abbrev Ended : After TimerEvent ArqProcedure → Type 0
-  Ended a = (ownsOf (p .inactivity) k ≡ true → a .outcome ≡ gives Terminated) × (ownsOf (a .state .inactivity) k ≡ false)
+  Ended a = (ownsOf (p .inactivity) k ≡ true → (a .outcome ≡ gives Terminated) × (activeOf (a .state) ≡ false)) × (ownsOf (a .state .inactivity) k ≡ false)
 
   abbrev Going : After TimerEvent ArqProcedure → Type 0
   Going a = (a .outcome ≡ gives None) × (ownsOf (a .state .inactivity) k ≡ true)
@@ -261,7 +322,7 @@ module _ (p : ArqProcedure) (s : Sound p) (k : TransactionToken) (d c : ℕ) whe
 
   advance-gone : k .0 < tok (p .inactivity) → d + 32 ≤ p .inactivity .«last_block» → Either (advanceOf p c)
   advance-gone l m n =
-      let f : ownsOf (p .inactivity) k ≡ true → advanceOf p c .outcome ≡ gives Terminated = λ o. absurd (let z = ap (λ (j : TransactionToken). j .0) (owned (p .inactivity) k o) in omega arith) in
+      let f : ownsOf (p .inactivity) k ≡ true → (advanceOf p c .outcome ≡ gives Terminated) × (activeOf (advanceOf p c .state) ≡ false) = λ o. absurd (let z = ap (λ (j : TransactionToken). j .0) (owned (p .inactivity) k o) in omega arith) in
       let g : ownsOf (advanceOf p c .state .inactivity) k ≡ false = foreign (advanceOf p c .state) k (let x = token-rises p (advance c) s in omega arith) in
       ((λ h. (f, g)), (λ h. absurd (advance-ways (λ a. ((n : ℕ) → a .outcome ≡ refuses n → ⊥) → ⊥) p c (λ y q. q y refl) (λ q y z. omega (arith, y .later)) n)))
 
@@ -274,7 +335,7 @@ module _ (p : ArqProcedure) (s : Sound p) (k : TransactionToken) (d c : ℕ) whe
       (λ since e f n. let z = waits-from (sym e ∙ h .state) in
       let m = newer (p .inactivity) (s .inactivity) (y .tokens) in
       let l : k .0 < _ = later-than (h .token) (m .0) in
-      ((λ w. ((λ o. refl), ne-eqb (k .0) _ (λ v. let x = m .1 in omega arith))), (λ w. absurd (let v = elapsed-true (clocked (p .inactivity) c) since f in omega arith))))))
+      ((λ w. ((λ o. (refl, refl)), ne-eqb (k .0) _ (λ v. let x = m .1 in omega arith))), (λ w. absurd (let v = elapsed-true (clocked (p .inactivity) c) since f in omega arith))))))
     where
       mine : ownsOf (p .inactivity) k ≡ true
       mine = eq-eqb (k .0) (tok (p .inactivity)) (sym (ap (λ (j : TransactionToken). j .0) (h .token)))
@@ -297,4 +358,4 @@ ends-at-32 i first fresh e before since b d x r w later silent c n =
     let st = sound-after q (statusSent d x r) sq in
     let h : Final (x .token) d (runs t later) = runs-keep (Final (x .token) d) (λ z y. Silent (x .token) z y × (Resets z y → ⊥)) (final-step (x .token) d) t later st f silent in
     let o = advance-final (runs t later) (sound-runs t later st) (x .token) d c h n in
-    ((λ l. record { answer = o .0 l .0; foreign = o .0 l .1 }), (λ l. record { answer = o .1 l .0; owned = o .1 l .1 }))
+    ((λ l. record { answer = λ y. o .0 l .0 y .0; inactive = λ y. o .0 l .0 y .1; foreign = o .0 l .1 }), (λ l. record { answer = o .1 l .0; owned = o .1 l .1 }))

@@ -9,7 +9,7 @@ use lib.ListN.{length}
 use borrow.Author.Tests.{ltb-false}
 use Rattle.token.specs.Token.{fewerThan}
 use Rattle.rach.specs.declared.MobileIdentity.{MobileIdentity}
-use Rattle.spach.specs.Refusal.{Outcome, gives, refuses, refuse, After, onward}
+use Rattle.spach.specs.Refusal.{Outcome, gives, refuses, refuse, andThen, After, onward}
 use Rattle.spach.proofs.Outcomes.{passed, then-gives}
 use Rattle.arq.specs.declared.ArqFrame.{ArqFrame}
 use Rattle.arq.specs.Encode.{byKind}
@@ -33,8 +33,8 @@ use Rattle.inactivity.specs.declared.StatusResult.the-variants as results
 use Rattle.inactivity.specs.declared.InactivityAction.{InactivityAction}
 use Rattle.inactivity.specs.declared.InactivityAction.the-variants as actions
 use Rattle.inactivity.specs.Inactivity as I
-use Rattle.inactivity.specs.Inactivity.{ownsOf, clocked, ticked, admitted, due, dueOf, solicitedAt, unsolicitedAt, isIdle}
-use Rattle.inactivity.proofs.Calls.{ticked-gives}
+use Rattle.inactivity.specs.Inactivity.{ownsOf, clocked, enough, ticked, admitted, due, dueOf, solicitedAt, unsolicitedAt, isIdle}
+use Rattle.inactivity.proofs.Calls.{ticked-gives, admitted-gives, enough-gives}
 use Rattle.inactivity.proofs.Kept as K
 use Rattle.inactivity.proofs.Kept.{onward-keeps, cond-keeps}
 use Rattle.procedure.specs.declared.StatusKind.{StatusKind}
@@ -68,16 +68,18 @@ sound-timer : (p : ArqProcedure) (t : ArqInactivity) → I.Sound t → (isIdle (
 sound-timer p t s k h = record { receiver = h .receiver; inactivity = s; armed = λ i. h .armed (k i) }
 
 -- the moved clock
+sound-clock : (p : ArqProcedure) (b : ℕ) {t : ArqInactivity} → t ≡ clocked (p .inactivity) b → p .inactivity .«last_block» ≤ b → Sound p → Sound (withTimer p t)
+sound-clock p b e l h = subst (λ u. Sound (withTimer p u)) (sym e) (sound-timer p (clocked (p .inactivity) b) (K.sound-clocked (p .inactivity) b l (h .inactivity)) (λ i. i) h)
+
 sound-ticked : (p : ArqProcedure) (b : ℕ) {t : ArqInactivity} → ticked (p .inactivity) b ≡ gives t → Sound p → Sound (withTimer p t)
-sound-ticked p b {t} e h =
-    let q = ticked-gives (p .inactivity) b e in
-    subst (λ u. Sound (withTimer p u)) (sym (q .0)) (sound-timer p (clocked (p .inactivity) b) (K.sound-clocked (p .inactivity) b (q .1) (h .inactivity)) (λ i. i) h)
+sound-ticked p b e h = let q = ticked-gives (p .inactivity) b e in sound-clock p b (q .0) (q .1) h
 
 pub sound-admits : (p : ArqProcedure) (b : ℕ) {q : ArqProcedure} → admits p b ≡ gives q → Sound p → Sound q
 sound-admits p b {q} e h =
     let a = then-gives (admitted (p .inactivity) b) (λ t. gives (withTimer p t)) e in
     let z : withTimer p (a .0) ≡ q = let w = a .2 in cc in
-    subst Sound z (sound-ticked p b (passed (fewerThan 4 (p .inactivity .«next_token»)) 18 (ticked (p .inactivity) b) (a .1) .1) h)
+    let k = admitted-gives (p .inactivity) b (a .1) in
+    subst Sound z (sound-clock p b (k .1) (k .2) h)
 
 -- a call that goes on at the moved clock
 admits-keeps : {A : Type 0} (p : ArqProcedure) (b : ℕ) (f : ArqProcedure → After A ArqProcedure) → ((q : ArqProcedure) → Sound q → Sound (f q .state)) → Sound p → Sound (onward p (admits p b) f .state)
@@ -86,8 +88,10 @@ admits-keeps p b f k h = onward-keeps Sound p (admits p b) f h (λ q e. k q (sou
 pub sound-reset : (p : ArqProcedure) → Sound p → Sound (resetOf p .state)
 unfolding resetOf
 sound-reset p h =
-    onward-keeps Sound p (refuse (fewerThan 4 (p .inactivity .«next_token»)) 18 (gives p)) (λ q. says tt (ended q)) h
-    (λ q e. let z : p ≡ q = let w = passed (fewerThan 4 (p .inactivity .«next_token»)) 18 (gives p) e .1 in cc in subst (λ r. Sound (ended r)) z (sound-ended p h))
+    onward-keeps Sound p (andThen (enough (p .inactivity)) (λ t. gives (withTimer p t))) (λ q. says tt (ended q)) h
+    (λ q e. let a = then-gives (enough (p .inactivity)) (λ t. gives (withTimer p t)) e in
+    let z : withTimer p (a .0) ≡ q = let w = a .2 in cc in
+    subst (λ r. Sound (ended r)) (sym (ap (withTimer p) (enough-gives (p .inactivity) (a .1) .1)) ∙ z) (sound-ended p h))
 
 -- ---- advance
 
@@ -201,11 +205,12 @@ sound-decoded p xs b (gives f) l e h = sound-pushes p xs b f l e h
 sound-decoded p xs b (refuses n) l e h = h
 
 -- what was let through
-pub lets-gives : (t : ArqInactivity) (b room : ℕ) {u : ArqInactivity} → lets t b room ≡ gives u → (255 ≤ room) × (ticked t b ≡ gives u)
-lets-gives t b room e =
-    let p = passed (fewerThan 4 (t .«next_token»)) 18 (refuse (ltb room 255) 16 (ticked t b)) e in
-    let q = passed (ltb room 255) 16 (ticked t b) (p .1) in
-    (ltb-false room 255 (q .0), q .1)
+pub lets-gives : (t : ArqInactivity) (b room : ℕ) {u : ArqInactivity} → lets t b room ≡ gives u → (255 ≤ room) × (ticked t b ≡ gives u) × (fewerThan 4 (t .«next_token») ≡ false)
+lets-gives t b room {u} e =
+    let a = then-gives (enough t) (λ x. refuse (ltb room 255) 16 (ticked x b)) e in
+    let n = enough-gives t (a .1) in
+    let q = passed (ltb room 255) 16 (ticked t b) (subst (λ x. refuse (ltb room 255) 16 (ticked x b) ≡ gives u) (n .1) (a .2)) in
+    (ltb-false room 255 (q .0), q .1, n .0)
 
 sound-goes : (p : ArqProcedure) (block : ℕ) (xs b : List ℕ) (x : Outcome ArqInactivity) → lets (p .inactivity) block (length b) ≡ x → Sound p → Sound (goes p xs b x .procedure)
 sound-goes p block xs b (gives t) e h =

@@ -1,22 +1,30 @@
 -- Laws of the procedure, where the equality with its definition leaves a reader to ask. Assumes nothing.
-use mathlib.Core.Path.{_≡_, refl, ap}
+use mathlib.Core.Path.{_≡_, refl, sym, ap}
+use mathlib.Core.Bool.{Bool, true, false}
 use mathlib.Core.List.{List}
-use mathlib.Core.Logic.{_⊎_, inl, inr}
 use Prim.Native.Nat.{ℕ}
 use native.Mathlib.Omega.{arith}
-use Rattle.token.specs.Token.{after as next}
-use Rattle.spach.specs.Refusal.{gives}
+use lib.ListN.{length}
+use Rattle.token.specs.Token.{numberAfter}
+use Rattle.spach.specs.Refusal.{gives, refuses}
+use Rattle.arq.specs.Encode.{byKind}
+use Rattle.receiver.specs.declared.ArqReassembler.{ArqReassembler}
+use Rattle.receiver.specs.declared.Request.{Request}
+use Rattle.receiver.specs.declared.Request.the-variants as requests
+use Rattle.inactivity.specs.declared.ArqInactivity.{ArqInactivity}
 use Rattle.receiver.specs.declared.StatusAnswer.the-variants as statuses
 use Rattle.receiver.specs.Receiver.{statusAnswer}
 use Rattle.inactivity.specs.Inactivity.{clocked}
 use Rattle.receiver.specs.declared.Delivery.{Delivery}
 use Rattle.procedure.specs.declared.StatusTransmission.{StatusTransmission}
 use Rattle.procedure.specs.declared.Transmission.{Transmission}
+use Rattle.procedure.specs.declared.Transmission.the-variants as transmissions
 use Rattle.procedure.specs.declared.ReceiveEvent.the-variants as receives
 use Rattle.procedure.specs.declared.TimerEvent.the-variants.{SendStatus, Terminated}
 use Rattle.procedure.specs.declared.ArqProcedure.{ArqProcedure}
-use Rattle.procedure.specs.Procedure.{Sound, withTimer, accepted, receiveOf, dueAt, advanceOf}
-use Rattle.procedure.proofs.Ways.{due-ways, advance-ways, receive-ways}
+use Rattle.procedure.specs.Procedure.{Sound, withTimer, accepted, refusal, lets, goes, receiveOf, dueAt, advanceOf}
+use Rattle.procedure.specs.History.{present}
+use Rattle.procedure.proofs.Ways.{due-ways, advance-ways, receive-passes, receive-ways}
 use Rattle.procedure.proofs.Steps.{at}
 
 sent-same : {x t : StatusTransmission} → gives (SendStatus x) ≡ gives (SendStatus t) → x ≡ t
@@ -32,17 +40,36 @@ expected p b t s =
     (λ since st k f e. rw (s .armed (rw st), ap (λ (x : StatusTransmission). x .request .status) (sent-same e))) (λ since st k e. absurd (let z : _≡_ {A = ℕ} 0 1 = cc in omega arith))))
 
 -- Terminated takes two token numbers: the timer's own reset, then the procedure's
-pub terminated-takes-two : (p : ArqProcedure) (b : ℕ) → advanceOf p b .outcome ≡ gives Terminated → advanceOf p b .state .inactivity .«next_token» ≡ next (next (p .inactivity .«next_token»))
+pub terminated-takes-two : (p : ArqProcedure) (b : ℕ) → advanceOf p b .outcome ≡ gives Terminated → advanceOf p b .state .inactivity .«next_token» ≡ numberAfter (numberAfter (p .inactivity .«next_token»))
 terminated-takes-two p b =
-    advance-ways (λ a. a .outcome ≡ gives Terminated → a .state .inactivity .«next_token» ≡ next (next (p .inactivity .«next_token»))) p b (λ n e. absurd (let z : _≡_ {A = ℕ} 0 1 = cc in omega arith))
-    (λ q c. at (λ z. dueAt z .outcome ≡ gives Terminated → dueAt z .state .inactivity .«next_token» ≡ next (next (p .inactivity .«next_token»))) c
-    (due-ways (λ a. a .outcome ≡ gives Terminated → a .state .inactivity .«next_token» ≡ next (next (p .inactivity .«next_token»))) (withTimer p (clocked (p .inactivity) b))
+    advance-ways (λ a. a .outcome ≡ gives Terminated → a .state .inactivity .«next_token» ≡ numberAfter (numberAfter (p .inactivity .«next_token»))) p b (λ n e. absurd (let z : _≡_ {A = ℕ} 0 1 = cc in omega arith))
+    (λ q c. at (λ z. dueAt z .outcome ≡ gives Terminated → dueAt z .state .inactivity .«next_token» ≡ numberAfter (numberAfter (p .inactivity .«next_token»))) c
+    (due-ways (λ a. a .outcome ≡ gives Terminated → a .state .inactivity .«next_token» ≡ numberAfter (numberAfter (p .inactivity .«next_token»))) (withTimer p (clocked (p .inactivity) b))
     (λ k e. absurd (let z : _≡_ {A = ℕ} 0 1 = cc in omega arith)) (λ since st k f e. absurd (let z : _≡_ {A = ℕ} 0 1 = cc in omega arith)) (λ since st k e. refl)))
 
--- a receive that is refused or Ignored leaves the procedure, or moves its clock and nothing else: the wait is not begun anew
-pub receive-leaves : (p : ArqProcedure) (block : ℕ) (xs b : List ℕ) → ((m : Delivery) (x : Transmission) → receiveOf p block xs b .outcome ≡ gives (receives.Accepted m x) → ⊥)
-    → (receiveOf p block xs b .procedure ≡ p) ⊎ (receiveOf p block xs b .procedure ≡ withTimer p (clocked (p .inactivity) block))
+-- a receive that 18, 16 or 17 refuses leaves the procedure
+pub receive-stops : (p : ArqProcedure) (block : ℕ) (xs b : List ℕ) (n : ℕ) → lets (p .inactivity) block (length b) ≡ refuses n → receiveOf p block xs b ≡ refusal n p b
+unfolding receiveOf
+receive-stops p block xs b n e = ap (goes p xs b) e
+
+-- one that is let through and then refused or Ignored moves the clock, and nothing else: it stays moved, and the wait is not begun anew
+pub receive-moves : (p : ArqProcedure) (block : ℕ) (xs b : List ℕ) {t : ArqInactivity} → lets (p .inactivity) block (length b) ≡ gives t
+    → ((m : Delivery) (x : Transmission) → receiveOf p block xs b .outcome ≡ gives (receives.Accepted m x) → ⊥) → receiveOf p block xs b .procedure ≡ withTimer p (clocked (p .inactivity) block)
 unfolding accepted
-receive-leaves p block xs b =
-    receive-ways (λ o q. ((m : Delivery) (x : Transmission) → o ≡ gives (receives.Accepted m x) → ⊥) → (q ≡ p) ⊎ (q ≡ withTimer p (clocked (p .inactivity) block))) p block xs b
-    (λ n k. inl refl) (λ q n c k. inr (c .here)) (λ q c k. inr (c .here)) (λ q c begin m r s k. absurd (k m _ refl))
+receive-moves p block xs b {t} e =
+    receive-passes (λ o q. ((m : Delivery) (x : Transmission) → o ≡ gives (receives.Accepted m x) → ⊥) → q ≡ withTimer p (clocked (p .inactivity) block)) p block xs b e
+    (λ q n c k. c .here) (λ q c k. c .here) (λ q c f d m r s h k. absurd (k m _ refl))
+
+-- a polled frame's status goes out under the token that is present afterwards
+pub polled-token : (p : ArqProcedure) (block : ℕ) (xs b : List ℕ) (m : Delivery) (x : StatusTransmission) → receiveOf p block xs b .outcome ≡ gives (receives.Accepted m (transmissions.Status x)) → x .token ≡ present (receiveOf p block xs b .procedure)
+unfolding accepted
+polled-token p block xs b m x =
+    receive-ways (λ o q. o ≡ gives (receives.Accepted m (transmissions.Status x)) → x .token ≡ present q) p block xs b (λ n e. absurd (let z : _≡_ {A = ℕ} 0 1 = cc in omega arith))
+    (λ q n c e. absurd (let z : _≡_ {A = ℕ} 0 1 = cc in omega arith)) (λ q c e. absurd (let z : _≡_ {A = ℕ} 0 1 = cc in omega arith)) (λ q c f d n r s h. by q (byKind (f .kind) true false) n r s)
+  where
+    by : (q : ArqProcedure) (begin : Bool) (n : Delivery) (r : Request) (s : ArqReassembler) → let a = accepted begin n r (record { receiver = s; inactivity = q .inactivity }) in a .outcome ≡ gives (receives.Accepted m (transmissions.Status x)) → x .token ≡ present (a .state)
+    by q begin n requests.Nothing s e = absurd (let z : _≡_ {A = ℕ} 0 1 = cc in omega arith)
+    by q begin n (requests.Status r) s e = told e
+      where
+        told : {y : StatusTransmission} → gives (receives.Accepted n (transmissions.Status y)) ≡ gives (receives.Accepted m (transmissions.Status x)) → x .token ≡ y .token
+        told {y} w = let z : y ≡ x = cc in ap (λ (v : StatusTransmission). v .token) (sym z)

@@ -1,9 +1,10 @@
 -- A procedure's life computed on the definitions: that the statements over lists of calls are not empty, 01's lines on 31 and 32
 -- blocks, and the token numbers. Assumes nothing.
 use mathlib.Core.Path.{_≡_, refl}
-use mathlib.Core.Bool.{false}
+use mathlib.Core.Bool.{Bool, true, false}
 use mathlib.Core.List.{List, [], _∷_, _++_}
 use Prim.Native.Nat.{ℕ, _-_}
+use native.Mathlib.Omega.{arith}
 use lib.Count.{ones, onesIn}
 use lib.ListN.{replicate}
 use Rattle.token.specs.Token.{stop}
@@ -15,22 +16,29 @@ use Rattle.rach.specs.declared.MobileIdentity.the-variants.{Tmsi20}
 use Rattle.spach.specs.declared.Channel.the-variants.{Arch}
 use Rattle.spach.specs.Refusal.{Outcome, gives, refuses}
 use Rattle.spach.specs.Header.{headerAAt, addressAt}
-use Rattle.arq.specs.declared.ResponseMode.the-variants.{Contention}
+use Rattle.arq.specs.declared.ResponseMode.the-variants.{Contention, Reservation}
 use Rattle.arq.specs.declared.ArqHeader.{ArqHeader}
 use Rattle.arq.specs.declared.PackedFrame.{PackedFrame}
 use Rattle.arq.specs.Frame.{packed, beginFrame, continueFrame}
 use Rattle.arq.specs.Encode.{encodeOf}
 use Rattle.arq.specs.Decode.{decodeOf}
 use Rattle.arq.specs.Cut.{cutFrame}
+use Rattle.receiver.specs.declared.Delivery.the-variants as deliveries
 use Rattle.receiver.specs.Receiver as R
 use Rattle.receiver.specs.Receiver.{slotAt, putSlot, gathered, assembled, finish, pushContinue, pushFrame}
 use Rattle.inactivity.specs.declared.StatusResult.the-variants as results
 use Rattle.inactivity.specs.Inactivity as I
+use Rattle.procedure.specs.declared.StatusKind.the-variants.{Solicited}
+use Rattle.procedure.specs.declared.StatusTransmission.{StatusTransmission}
+use Rattle.procedure.specs.declared.Transmission.{Transmission}
+use Rattle.procedure.specs.declared.Transmission.the-variants as transmissions
+use Rattle.procedure.specs.declared.ReceiveEvent.{ReceiveEvent}
+use Rattle.procedure.specs.declared.ReceiveEvent.the-variants as receives
 use Rattle.procedure.specs.declared.TimerEvent.the-variants.{None, SendStatus, Terminated}
 use Rattle.procedure.specs.declared.SendEvent.the-variants as sends
 use Rattle.procedure.specs.declared.ArqProcedure.{ArqProcedure}
-use Rattle.procedure.specs.Procedure.{newOf, accepted, receiveOf, unsolicited, advanceOf, statusSentOf}
-use Rattle.procedure.specs.History.{receive, advance, statusSent, runs, present}
+use Rattle.procedure.specs.Procedure.{newOf, says, resetOf, activeOf, accepted, receiveOf, unsolicited, advanceOf, statusSentOf}
+use Rattle.procedure.specs.History.{receive, advance, statusSent, reset, runs, Each, present, Pending, ReportedSent}
 
 -- an order of seven octets needs a Begin and one Continue, one of a single octet needs only the Begin
 abbrev identity : MobileIdentity
@@ -62,6 +70,26 @@ twenty = replicate 20 9
 abbrev room : List ℕ
 room = replicate 255 0
 
+-- a frame that is polled, and the status that it asks for
+abbrev asking : ArqHeader
+asking = record { channel = header .channel; flags = header .flags; «partial_echo» = 5; polling = true; «response_mode» = Reservation }
+
+abbrev polled : List ℕ → ℕ → List ℕ
+polled m k = octetsIn (encodeOf (cutFrame asking identity m k))
+
+abbrev status : ℕ → ℕ → Bool → StatusTransmission
+status k map complete = record {
+  request = record { status = record { «partial_echo» = 5; «received_frames» = map }; «response_mode» = Reservation };
+  token = record { 0 = k };
+  kind = Solicited;
+  «complete_at_poll» = complete;
+}
+
+abbrev statusIn : Outcome ReceiveEvent → Transmission
+statusIn (gives receives.Ignored) = transmissions.Nothing
+statusIn (gives (receives.Accepted m x)) = x
+statusIn (refuses n) = transmissions.Nothing
+
 -- a fresh procedure whose first token is n
 abbrev fresh : ℕ → ArqProcedure
 fresh n = record { receiver = R.fresh identity; inactivity = I.newOf n }
@@ -76,26 +104,82 @@ asked = runs begun (advance 132 ∷ [])
 abbrev told : ArqProcedure
 told = runs asked (statusSent 150 (unsolicited asked) results.Sent ∷ [])
 
+-- the order of twenty: its first Continue comes while the status is pending, and takes the timer back to waiting
+abbrev longer : ArqProcedure
+longer = runs (fresh 7) (receive 100 (frame twenty 0) room ∷ [])
+
+abbrev back : ArqProcedure
+back = runs longer (advance 132 ∷ receive 140 (frame twenty 1) room ∷ [])
+
+-- complete by a polled Continue: it waits for its status
+abbrev whole : ArqProcedure
+whole = runs begun (receive 101 (polled seven 1) room ∷ [])
+
+-- by the timer: 31 and 32 blocks, the second wait, what ends the transaction, and its token numbers
 pub settled : (newOf identity 7 ≡ gives (fresh 7))
     × (present begun .0 ≡ 8)
     × (advanceOf begun 131 .outcome ≡ gives None)
     × (advanceOf begun 132 .outcome ≡ gives (SendStatus (unsolicited asked)))
     × (unsolicited asked .request .status .«partial_echo» ≡ 5)
+    × (unsolicited asked .request .«response_mode» ≡ Contention)
     × (unsolicited asked .token .0 ≡ 8)
-    × (advanceOf (runs (fresh 7) (receive 100 (frame twenty 0) room ∷ advance 132 ∷ receive 140 (frame twenty 1) room ∷ [])) 900 .outcome ≡ gives None)
     × (statusSentOf asked 150 (unsolicited asked) results.Sent .outcome ≡ gives sends.Pending)
     × (advanceOf told 181 .outcome ≡ gives None)
     × (advanceOf told 182 .outcome ≡ gives Terminated)
     × (present (runs told (advance 182 ∷ [])) .0 ≡ 10)
-    × (statusSentOf (runs told (advance 182 ∷ [])) 0 (unsolicited asked) results.Failed .outcome ≡ gives sends.Ignored)
-    × (receiveOf begun 101 (frame seven 1) room .buffer ≡ seven ++ replicate 248 0)
+    × (activeOf (runs told (advance 182 ∷ [])) ≡ false)
+    × (statusSentOf (runs told (advance 182 ∷ [])) 0 (unsolicited asked) results.Failed ≡ says sends.Ignored (runs told (advance 182 ∷ [])))
+    × (advanceOf (runs longer (receive 120 (frame twenty 1) room ∷ [])) 151 .outcome ≡ gives None)
+    × (advanceOf back 900 .outcome ≡ gives None)
+    × (advanceOf (runs back (statusSent 150 (unsolicited back) results.Sent ∷ [])) 181 .outcome ≡ gives None)
+    × (advanceOf (runs back (statusSent 150 (unsolicited back) results.Sent ∷ [])) 182 .outcome ≡ gives (SendStatus (unsolicited back)))
+    × (activeOf (runs begun (statusSent 102 (status 8 0 false) results.Failed ∷ [])) ≡ false)
+    × (present (runs begun (statusSent 102 (status 8 0 false) results.Failed ∷ [])) .0 ≡ 9)
+    × (activeOf (runs begun (reset ∷ [])) ≡ false)
+    × (present (runs begun (reset ∷ [])) .0 ≡ 9)
+unfolding newOf R.newOf runs receiveOf accepted advanceOf statusSentOf resetOf pushFrame pushContinue finish assembled gathered slotAt putSlot same ones onesIn decodeOf headerAAt addressAt bitsOf bits value octets field upTo layout anySet encodeOf beginFrame continueFrame packed encodable inRange
+settled = (refl, refl, refl, refl, refl, refl, refl, refl, refl, refl, refl, refl, refl, refl, refl, refl, refl, refl, refl, refl, refl)
+
+-- by the frames: messages, polls, refusals with the clock moved, the last four tokens
+pub received : (receiveOf begun 101 (frame seven 1) room .buffer ≡ seven ++ replicate 248 0)
     × (present (runs begun (receive 101 (frame seven 1) room ∷ [])) .0 ≡ 9)
+    × (activeOf (runs begun (receive 101 (frame seven 1) room ∷ [])) ≡ false)
     × (present (runs (fresh 7) (receive 100 (frame (65 ∷ []) 0) room ∷ [])) .0 ≡ 9)
+    × (receiveOf (fresh 7) 100 (polled seven 0) room .outcome ≡ gives (receives.Accepted deliveries.Nothing (transmissions.Status (status 8 0 false))))
+    × (receiveOf longer 101 (polled twenty 1) room .outcome ≡ gives (receives.Accepted deliveries.Nothing (transmissions.Status (status 8 1 false))))
+    × (statusIn (receiveOf begun 101 (polled seven 1) room .outcome) ≡ transmissions.Status (status 8 1 true))
+    × (advanceOf whole 900 .outcome ≡ gives None)
+    × (activeOf whole ≡ true)
+    × (statusSentOf whole 102 (status 8 1 true) results.Sent .outcome ≡ gives sends.Complete)
+    × (activeOf (runs whole (statusSent 102 (status 8 1 true) results.Sent ∷ [])) ≡ false)
+    × (present (runs whole (statusSent 102 (status 8 1 true) results.Sent ∷ [])) .0 ≡ 9)
     × (receiveOf begun 101 (1 ∷ []) room .outcome ≡ refuses 1)
     × (receiveOf begun 101 (1 ∷ []) room .procedure .inactivity .«last_block» ≡ 101)
-    × (present (runs (fresh (stop - 5)) (receive 100 (frame (65 ∷ []) 0) room ∷ [])) .0 ≡ stop - 3)
-    × (receiveOf (fresh (stop - 4)) 100 (frame (65 ∷ []) 0) [] .outcome ≡ refuses 18)
     × (receiveOf begun 99 (1 ∷ []) [] .outcome ≡ refuses 16)
     × (receiveOf begun 99 (1 ∷ []) room .outcome ≡ refuses 17)
-unfolding newOf R.newOf runs receiveOf accepted advanceOf statusSentOf pushFrame pushContinue finish assembled gathered slotAt putSlot same ones onesIn decodeOf headerAAt addressAt bitsOf bits value octets field upTo layout anySet encodeOf beginFrame continueFrame packed encodable inRange
-settled = (refl, refl, refl, refl, refl, refl, refl, refl, refl, refl, refl, refl, refl, refl, refl, refl, refl, refl, refl, refl, refl)
+    × (present (runs (fresh (stop - 5)) (receive 100 (frame (65 ∷ []) 0) room ∷ [])) .0 ≡ stop - 3)
+    × (present (runs (fresh (stop - 6)) (receive 100 (frame seven 0) room ∷ advance 132 ∷ statusSent 150 (unsolicited (runs (fresh (stop - 6)) (receive 100 (frame seven 0) room ∷ []))) results.Sent ∷ advance 182 ∷ [])) .0 ≡ stop - 3)
+    × (receiveOf (fresh (stop - 4)) 100 (frame (65 ∷ []) 0) [] .outcome ≡ refuses 18)
+    × (resetOf (fresh (stop - 5)) .outcome ≡ gives tt)
+    × (resetOf (fresh (stop - 4)) .outcome ≡ refuses 18)
+unfolding runs receiveOf accepted advanceOf statusSentOf resetOf pushFrame pushContinue finish assembled gathered slotAt putSlot same ones onesIn decodeOf headerAAt addressAt bitsOf bits value octets field upTo layout anySet encodeOf beginFrame continueFrame packed encodable inRange
+received = (refl, refl, refl, refl, refl, refl, refl, refl, refl, refl, refl, refl, refl, refl, refl, refl, refl, refl, refl, refl, refl)
+
+-- ---- the statements over lists of calls are not empty
+
+-- a status is pending, though a frame was accepted since
+pub pending : Pending longer 132 (receive 140 (frame twenty 1) room ∷ [])
+unfolding runs Each receiveOf accepted advanceOf pushFrame pushContinue finish assembled gathered slotAt putSlot same ones onesIn decodeOf headerAAt addressAt bitsOf bits value octets field upTo layout anySet encodeOf beginFrame continueFrame packed encodable inRange
+pending = record { status = unsolicited (runs longer (advance 132 ∷ [])); asked = refl; under = refl; unanswered = ((λ a. a .0), tt) }
+
+-- one was sent, though octets that are no frame were refused and a reset was not called since
+pub reported : ReportedSent begun 132 (receive 140 (1 ∷ []) room ∷ advance 141 ∷ []) 150 (unsolicited asked) results.Sent
+unfolding runs Each receiveOf accepted advanceOf statusSentOf pushFrame pushContinue finish assembled gathered slotAt putSlot same ones onesIn decodeOf headerAAt addressAt bitsOf bits value octets field upTo layout anySet encodeOf beginFrame continueFrame packed encodable inRange
+reported = record {
+  status = unsolicited asked;
+  asked = refl;
+  silent = (((λ a. let e = a .2 in let z : _≡_ {A = ℕ} 0 1 = cc in omega arith), (λ a. a)), (((λ a. a), (λ a. a)), tt));
+  unsolicited = refl;
+  token = refl;
+  sent = refl;
+}

@@ -1,11 +1,12 @@
 -- What one call does to the present token, to a pending status and to the clock. Assumes nothing.
 use mathlib.Core.Path.{_≡_, refl, sym, ap, subst}
 use mathlib.Core.Bool.{Bool, true, false, cond}
-use mathlib.Core.Logic.{_⊎_, inl, inr}
+use mathlib.Core.Logic.{_⊎_, inl, inr, ⊎-elim}
 use Prim.Native.Nat.{ℕ, _-_, _≤_, _<_}
 use native.Mathlib.Omega.{arith}
 use borrow.Author.Tests.{ltb-false, eqb-true}
 use Rattle.token.specs.Token.{stop, fewerThan}
+use Rattle.arq.specs.Encode.{byKind}
 use Rattle.receiver.specs.declared.ArqReassembler.{ArqReassembler}
 use Rattle.receiver.specs.declared.Delivery.{Delivery}
 use Rattle.receiver.specs.declared.Request.{Request}
@@ -118,13 +119,18 @@ module _ (p : ArqProcedure) (s : Sound p) (b : ℕ) (x : StatusTransmission) whe
       (λ q o c k. at (λ z. Turns A p (withTimer z (reported (x .kind) (z .inactivity)))) c
       (reported-turns (p .inactivity) (s .inactivity) b (c .later) (c .tokens) (x .kind) (λ u. k (u, owned (p .inactivity) (x .token) o, tt))))
 
+-- what nothing can be is as good as anything
+weaken : {A : Type 0} {t u : ArqInactivity} → Turnout ⊥ t u → Turnout A t u
+weaken (renews l k) = renews l k
+weaken (keeps e f k) = keeps e (λ h. ⊎-elim inl (λ x. absurd x) (f h)) k
+
 pub turnout : (p : ArqProcedure) (c : Call) → Sound p → Turns (AcceptsUnsolicited (present p) p c) p (after p c)
 turnout p (receive block xs b) s =
-    receive-ways (λ o q. Turns ⊥ p q) p block xs b (λ n. same (p .inactivity)) (λ q n c. at (Turns ⊥ p) c (keeps refl inl (c .later))) (λ q c. at (Turns ⊥ p) c (keeps refl inl (c .later)))
-    (λ q c begin m r x. at (λ z. Turns ⊥ p (accepted begin m r (record { receiver = x; inactivity = z .inactivity }) .state)) c (accepted-turns (p .inactivity) (s .inactivity) block (c .later) (c .tokens) begin m r x))
+    weaken (receive-ways (λ o q. Turns ⊥ p q) p block xs b (λ n. same (p .inactivity)) (λ q n c. at (Turns ⊥ p) c (keeps refl inl (c .later))) (λ q c. at (Turns ⊥ p) c (keeps refl inl (c .later)))
+    (λ q c f d m r x h. at (λ z. Turns ⊥ p (accepted (byKind (f .kind) true false) m r (record { receiver = x; inactivity = z .inactivity }) .state)) c (accepted-turns (p .inactivity) (s .inactivity) block (c .later) (c .tokens) (byKind (f .kind) true false) m r x)))
 turnout p (advance b) s =
-    advance-ways (λ a. Turns ⊥ p (a .state)) p b (λ n. same (p .inactivity))
+    weaken (advance-ways (λ a. Turns ⊥ p (a .state)) p b (λ n. same (p .inactivity))
     (λ q c. at (λ z. Turns ⊥ p (dueAt z .state)) c (due-ways (λ a. Turns ⊥ p (a .state)) (withTimer p (clocked (p .inactivity) b)) (λ k. keeps refl inl (c .later)) (λ since e k f. keeps refl (λ h. inl refl) (c .later))
-    (λ since e k. twice (p .inactivity) (s .inactivity) b (c .later) (c .tokens))))
-turnout p (statusSent b x r) s = sent-turns p s b x (AcceptsUnsolicited (present p) p (statusSent b x r)) r (λ a. a)
-turnout p reset s = reset-ways (λ a. Turns ⊥ p (a .state)) p (λ n. same (p .inactivity)) (λ e. let n = newer (p .inactivity) (s .inactivity) e in renews (n .0) (omega arith))
+    (λ since e k. twice (p .inactivity) (s .inactivity) b (c .later) (c .tokens)))))
+turnout p (statusSent b x r) s = sent-turns p s b x (AcceptsUnsolicited (present p) p (statusSent b x r)) r (λ a. (a .0, (a .1, a .2)))
+turnout p reset s = weaken (reset-ways (λ a. Turns ⊥ p (a .state)) p (λ n. same (p .inactivity)) (λ e. let n = newer (p .inactivity) (s .inactivity) e in renews (n .0) (omega arith)))

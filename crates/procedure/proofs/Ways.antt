@@ -5,11 +5,10 @@ use mathlib.Core.List.{List}
 use mathlib.Core.Logic.{_⊎_, inl, inr}
 use Prim.Native.Nat.{ℕ, _≤_}
 use native.Mathlib.Omega.{arith}
-use lib.Dec.{ltb}
 use lib.ListN.{length}
 use Rattle.token.specs.Token.{fewerThan}
-use Rattle.spach.specs.Refusal.{Outcome, gives, refuses, refuse, After, onward}
-use Rattle.spach.proofs.Outcomes.{passed, then-gives}
+use Rattle.spach.specs.Refusal.{Outcome, gives, refuses, refuse, andThen, After, onward}
+use Rattle.spach.proofs.Outcomes.{then-gives}
 use Rattle.arq.specs.declared.ArqFrame.{ArqFrame}
 use Rattle.arq.specs.Encode.{byKind}
 use Rattle.arq.specs.Decode.{decodeOf}
@@ -20,13 +19,14 @@ use Rattle.receiver.specs.declared.Reception.{Reception}
 use Rattle.receiver.specs.declared.Reception.the-variants as receptions
 use Rattle.receiver.specs.Receiver as R
 use Rattle.receiver.specs.Receiver.{pushFrame, completeOf}
+use Rattle.receiver.proofs.Laws.{accepted-held}
 use Rattle.inactivity.specs.declared.ArqInactivity.{ArqInactivity}
 use Rattle.inactivity.specs.declared.State.{State}
 use Rattle.inactivity.specs.declared.State.the-variants.{Idle, Waiting, SendingUnsolicited, FinalWait}
 use Rattle.inactivity.specs.declared.StatusResult.{StatusResult}
 use Rattle.inactivity.specs.declared.StatusResult.the-variants as results
 use Rattle.inactivity.specs.declared.InactivityAction.the-variants as actions
-use Rattle.inactivity.specs.Inactivity.{turn, ownsOf, renewed, clocked, put, ticked, admitted, due, elapsed}
+use Rattle.inactivity.specs.Inactivity.{turn, ownsOf, renewed, clocked, put, admitted, due, elapsed}
 use Rattle.inactivity.proofs.Calls.{ticked-gives, admitted-gives}
 use Rattle.procedure.specs.declared.StatusTransmission.{StatusTransmission}
 use Rattle.procedure.specs.declared.ReceiveEvent.{ReceiveEvent}
@@ -75,7 +75,7 @@ pub reset-ways : (P : After Unit ArqProcedure → Type 0) (p : ArqProcedure) →
 unfolding resetOf
 reset-ways P p stops goes = by (fewerThan 4 (p .inactivity .«next_token»)) refl
   where
-    by : (x : Bool) → fewerThan 4 (p .inactivity .«next_token») ≡ x → P (onward p (refuse x 18 (gives p)) (λ q. says tt (ended q)))
+    by : (x : Bool) → fewerThan 4 (p .inactivity .«next_token») ≡ x → P (onward p (andThen (refuse x 18 (gives (p .inactivity))) (λ t. gives (withTimer p t))) (λ q. says tt (ended q)))
     by true e = stops 18
     by false e = goes e
 
@@ -147,35 +147,51 @@ module _ (P : After SendEvent ArqProcedure → Type 0) (p : ArqProcedure) (b : �
 
 -- ---- receive
 
--- refused with or without the clock moved; Ignored; accepted
-module _ (P : Outcome ReceiveEvent → ArqProcedure → Type 0) (p : ArqProcedure) (block : ℕ) (xs b : List ℕ) (stops : (n : ℕ) → P (refuses n) p)
-    (halts : (q : ArqProcedure) (n : ℕ) → Clocked p block q → P (refuses n) q) (ignores : (q : ArqProcedure) → Clocked p block q → P (gives receives.Ignored) q)
-    (accepts : (q : ArqProcedure) → Clocked p block q → (begin : Bool) (m : Delivery) (r : Request) (s : ArqReassembler)
-    → let a = accepted begin m r (record { receiver = s; inactivity = q .inactivity }) in P (a .outcome) (a .state)) where
+-- refused with the clock moved; Ignored; accepted
+module _ (P : Outcome ReceiveEvent → ArqProcedure → Type 0) (p : ArqProcedure) (block : ℕ) (xs b : List ℕ) where
   abbrev PO : Out → Type 0
   PO o = P (o .outcome) (o .procedure)
 
-  taken-ways : (begin : Bool) (x : Outcome Reception) (o : R.Out) (q : ArqProcedure) → Clocked p block q → o .outcome ≡ x
-      → (o .outcome ≡ gives receptions.Ignored → o .receiver ≡ q .receiver) → ((n : ℕ) → o .outcome ≡ refuses n → o .receiver ≡ q .receiver)
-      → PO (taken begin x (record { receiver = o .receiver; inactivity = q .inactivity }) (o .buffer))
-  taken-ways begin (gives receptions.Ignored) o q c e i n = rw (i e) (ignores q c)
-  taken-ways begin (gives (receptions.Accepted m r)) o q c e i n = accepts q c begin m r (o .receiver)
-  taken-ways begin (refuses k) o q c e i n = rw (n k e) (halts q k c)
+  module _ (halts : (q : ArqProcedure) (n : ℕ) → Clocked p block q → P (refuses n) q) (ignores : (q : ArqProcedure) → Clocked p block q → P (gives receives.Ignored) q)
+      (accepts : (q : ArqProcedure) → Clocked p block q → (f : ArqFrame) → decodeOf xs ≡ gives f → (m : Delivery) (r : Request) (s : ArqReassembler) → s .transaction .held ≡ true
+      → let a = accepted (byKind (f .kind) true false) m r (record { receiver = s; inactivity = q .inactivity }) in P (a .outcome) (a .state)) where
+    taken-ways : (f : ArqFrame) → decodeOf xs ≡ gives f → (x : Outcome Reception) (o : R.Out) (q : ArqProcedure) → Clocked p block q → o .outcome ≡ x
+        → ((m : Delivery) (r : Request) → o .outcome ≡ gives (receptions.Accepted m r) → o .receiver .transaction .held ≡ true)
+        → (o .outcome ≡ gives receptions.Ignored → o .receiver ≡ q .receiver) → ((n : ℕ) → o .outcome ≡ refuses n → o .receiver ≡ q .receiver)
+        → PO (taken (byKind (f .kind) true false) x (record { receiver = o .receiver; inactivity = q .inactivity }) (o .buffer))
+    taken-ways f d (gives receptions.Ignored) o q c e h i n = rw (i e) (ignores q c)
+    taken-ways f d (gives (receptions.Accepted m r)) o q c e h i n = accepts q c f d m r (o .receiver) (h m r e)
+    taken-ways f d (refuses k) o q c e h i n = rw (n k e) (halts q k c)
 
-  decoded-ways : (q : ArqProcedure) → Clocked p block q → 255 ≤ length b → (x : Outcome ArqFrame) → decodeOf xs ≡ x → PO (decoded q b x)
-  decoded-ways q c l (gives f) e =
-      let s = q .receiver in
-      taken-ways (byKind (f .kind) true false) (pushFrame s b f .outcome) (pushFrame s b f) q c refl (ignored-same s xs b f l e) (λ n. refused-same s xs b f n l e)
-  decoded-ways q c l (refuses n) e = halts q n c
+    decoded-ways : (q : ArqProcedure) → Clocked p block q → 255 ≤ length b → (x : Outcome ArqFrame) → decodeOf xs ≡ x → PO (decoded q b x)
+    decoded-ways q c l (gives f) e =
+        let s = q .receiver in
+        taken-ways f e (pushFrame s b f .outcome) (pushFrame s b f) q c refl (accepted-held s f b) (ignored-same s xs b f l e) (λ n. refused-same s xs b f n l e)
+    decoded-ways q c l (refuses n) e = halts q n c
 
-  goes-ways : (x : Outcome ArqInactivity) → lets (p .inactivity) block (length b) ≡ x → PO (goes p xs b x)
-  goes-ways (gives t) e =
-      let k = lets-gives (p .inactivity) block (length b) e in
-      let z = ticked-gives (p .inactivity) block (k .1) in
-      let f = passed (fewerThan 4 (p .inactivity .«next_token»)) 18 (refuse (ltb (length b) 255) 16 (ticked (p .inactivity) block)) e in
-      decoded-ways (withTimer p t) (record { tokens = f .0; later = z .1; here = ap (withTimer p) (z .0) }) (k .0) (decodeOf xs) refl
-  goes-ways (refuses n) e = stops n
+    let-through : {t : ArqInactivity} → lets (p .inactivity) block (length b) ≡ gives t → PO (decoded (withTimer p t) b (decodeOf xs))
+    let-through {t} e =
+        let k = lets-gives (p .inactivity) block (length b) e in
+        let z = ticked-gives (p .inactivity) block (k .1) in
+        decoded-ways (withTimer p t) (record { tokens = k .2; later = z .1; here = ap (withTimer p) (z .0) }) (k .0) (decodeOf xs) refl
 
-  pub receive-ways : P (receiveOf p block xs b .outcome) (receiveOf p block xs b .procedure)
+  -- where 18, 16 and 17 let it through
+  pub receive-passes : {t : ArqInactivity} → lets (p .inactivity) block (length b) ≡ gives t → ((q : ArqProcedure) (n : ℕ) → Clocked p block q → P (refuses n) q)
+      → ((q : ArqProcedure) → Clocked p block q → P (gives receives.Ignored) q)
+      → ((q : ArqProcedure) → Clocked p block q → (f : ArqFrame) → decodeOf xs ≡ gives f → (m : Delivery) (r : Request) (s : ArqReassembler) → s .transaction .held ≡ true
+      → let a = accepted (byKind (f .kind) true false) m r (record { receiver = s; inactivity = q .inactivity }) in P (a .outcome) (a .state))
+      → P (receiveOf p block xs b .outcome) (receiveOf p block xs b .procedure)
   unfolding receiveOf
-  receive-ways = goes-ways (lets (p .inactivity) block (length b)) refl
+  receive-passes e halts ignores accepts = subst (λ o. PO (goes p xs b o)) (sym e) (let-through halts ignores accepts e)
+
+  -- and where they do not
+  pub receive-ways : ((n : ℕ) → P (refuses n) p) → ((q : ArqProcedure) (n : ℕ) → Clocked p block q → P (refuses n) q) → ((q : ArqProcedure) → Clocked p block q → P (gives receives.Ignored) q)
+      → ((q : ArqProcedure) → Clocked p block q → (f : ArqFrame) → decodeOf xs ≡ gives f → (m : Delivery) (r : Request) (s : ArqReassembler) → s .transaction .held ≡ true
+      → let a = accepted (byKind (f .kind) true false) m r (record { receiver = s; inactivity = q .inactivity }) in P (a .outcome) (a .state))
+      → P (receiveOf p block xs b .outcome) (receiveOf p block xs b .procedure)
+  unfolding receiveOf
+  receive-ways stops halts ignores accepts = by (lets (p .inactivity) block (length b)) refl
+    where
+      by : (o : Outcome ArqInactivity) → lets (p .inactivity) block (length b) ≡ o → PO (goes p xs b o)
+      by (gives t) e = let-through halts ignores accepts e
+      by (refuses n) e = stops n

@@ -2,11 +2,15 @@
 -- pending, that the transaction ends 32 blocks after one was sent and not before, and that a token of an ended transaction is
 -- foreign for ever. Assumes nothing.
 use mathlib.Core.Path.{_≡_}
+use mathlib.Core.Logic.{_⊎_}
 use mathlib.Core.Bool.{true, false}
 use mathlib.Core.List.{List, [], _∷_}
 use Prim.Native.Nat.{ℕ, _+_, _≤_, _<_}
 use Rattle.rach.specs.declared.MobileIdentity.{MobileIdentity}
 use Rattle.spach.specs.Refusal.{Outcome, gives, refuses}
+use Rattle.arq.specs.declared.FrameKind.the-variants.{Begin}
+use Rattle.arq.specs.declared.ArqFrame.{ArqFrame}
+use Rattle.arq.specs.Decode.{decodeOf}
 use Rattle.receiver.specs.declared.Delivery.{Delivery}
 use Rattle.inactivity.specs.declared.TransactionToken.{TransactionToken}
 use Rattle.inactivity.specs.declared.StatusResult.{StatusResult}
@@ -19,7 +23,7 @@ use Rattle.procedure.specs.declared.TimerEvent.the-variants.{None, SendS
 use Rattle.procedure.specs.declared.SendEvent.{SendEvent}
 use Rattle.procedure.specs.declared.SendEvent.the-variants as sends
 use Rattle.procedure.specs.declared.ArqProcedure.{ArqProcedure}
-use Rattle.procedure.specs.Procedure.{newOf, says, resetOf, receiveOf, advanceOf, statusSentOf}
+use Rattle.procedure.specs.Procedure.{newOf, says, resetOf, activeOf, receiveOf, advanceOf, statusSentOf}
 
 -- ---- lists of calls
 
@@ -71,12 +75,15 @@ AcceptsResult k p (advance b) = ⊥
 AcceptsResult k p (statusSent b x r) = (x .token ≡ k) × Taken (statusSentOf p b x r .outcome)
 AcceptsResult k p reset = ⊥
 
--- and it is that of an unsolicited status
+-- it is the result of an unsolicited status
+abbrev pub OfUnsolicited : Call → Type 0
+OfUnsolicited (receive b xs buffer) = ⊥
+OfUnsolicited (advance b) = ⊥
+OfUnsolicited (statusSent b x r) = x .kind ≡ Unsolicited
+OfUnsolicited reset = ⊥
+
 abbrev pub AcceptsUnsolicited : TransactionToken → ArqProcedure → Call → Type 0
-AcceptsUnsolicited k p (receive b xs buffer) = ⊥
-AcceptsUnsolicited k p (advance b) = ⊥
-AcceptsUnsolicited k p (statusSent b x r) = (x .kind ≡ Unsolicited) × (x .token ≡ k) × Taken (statusSentOf p b x r .outcome)
-AcceptsUnsolicited k p reset = ⊥
+AcceptsUnsolicited k p c = OfUnsolicited c × AcceptsResult k p c
 
 -- a reset that is not refused
 abbrev pub Resets : ArqProcedure → Call → Type 0
@@ -84,6 +91,14 @@ Resets p (receive b xs buffer) = ⊥
 Resets p (advance b) = ⊥
 Resets p (statusSent b x r) = ⊥
 Resets p reset = resetOf p .outcome ≡ gives tt
+
+-- a transaction is ended by: a Begin that is accepted in its place, or a frame after which none is held; Terminated; a result
+-- that is answered Complete or Failed; a reset
+abbrev pub EndsTransaction : ArqProcedure → Call → Type 0
+EndsTransaction p (receive b xs buffer) = AcceptsFrame p (receive b xs buffer) × (((f : ArqFrame) × (decodeOf xs ≡ gives f) × (f .kind ≡ Begin)) ⊎ (activeOf (after p (receive b xs buffer)) ≡ false))
+EndsTransaction p (advance b) = advanceOf p b .outcome ≡ gives Terminated
+EndsTransaction p (statusSent b x r) = (statusSentOf p b x r .outcome ≡ gives sends.Complete) ⊎ (statusSentOf p b x r .outcome ≡ gives sends.Failed)
+EndsTransaction p reset = Resets p reset
 
 -- ---- the three statements
 
@@ -125,9 +140,10 @@ pub record GoesOn (p : ArqProcedure) (c : ℕ) (k : TransactionToken) : Type 0 w
   pub answer : advanceOf p c .outcome ≡ gives None
   pub owned : ownsOf (after p (advance c) .inactivity) k ≡ true
 
--- it is ended afterwards, by this advance if it was not before
+-- it is ended afterwards, by this advance if it was not before: then nothing is held any more
 pub record Ends (p : ArqProcedure) (c : ℕ) (k : TransactionToken) : Type 0 where
   pub answer : ownsOf (p .inactivity) k ≡ true → advanceOf p c .outcome ≡ gives Terminated
+  pub inactive : ownsOf (p .inactivity) k ≡ true → activeOf (after p (advance c)) ≡ false
   pub foreign : ownsOf (after p (advance c) .inactivity) k ≡ false
 
 -- once one was reported sent at block d: if no frame is accepted, no result of its token and no reset, an advance that is not
@@ -145,7 +161,7 @@ EndsAt32 =
 abbrev pub ForeignForEver : Type 0
 ForeignForEver =
     (i : MobileIdentity) (first : ℕ) (fresh : ArqProcedure) → newOf i first ≡ gives fresh
-    → (before since later : List Call) → ownsOf (runs (runs fresh before) since .inactivity) (present (runs fresh before)) ≡ false
-    → let p = runs (runs (runs fresh before) since) later in
-    (ownsOf (p .inactivity) (present (runs fresh before)) ≡ false)
-    × ((b : ℕ) (x : StatusTransmission) (r : StatusResult) → x .token ≡ present (runs fresh before) → statusSentOf p b x r ≡ says sends.Ignored p)
+    → (before : List Call) (c : Call) → EndsTransaction (runs fresh before) c
+    → (later : List Call) → let k = present (runs fresh before) in
+    let p = runs (after (runs fresh before) c) later in
+    (ownsOf (p .inactivity) k ≡ false) × ((b : ℕ) (x : StatusTransmission) (r : StatusResult) → x .token ≡ k → statusSentOf p b x r ≡ says sends.Ignored p)

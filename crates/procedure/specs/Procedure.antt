@@ -6,7 +6,6 @@ use mathlib.Core.List.{List}
 use Prim.Native.Nat.{ℕ}
 use lib.Dec.{ltb}
 use lib.ListN.{length}
-use Rattle.token.specs.Token.{fewerThan}
 use Rattle.rach.specs.declared.MobileIdentity.{MobileIdentity}
 use Rattle.spach.specs.Refusal.{Outcome, gives, refuses, refuse, andThen, verdictOf, After, onward}
 use Rattle.arq.specs.declared.ArqFrame.{ArqFrame}
@@ -27,7 +26,7 @@ use Rattle.inactivity.specs.declared.StatusResult.the-variants as results
 use Rattle.inactivity.specs.declared.InactivityAction.{InactivityAction}
 use Rattle.inactivity.specs.declared.InactivityAction.the-variants as actions
 use Rattle.inactivity.specs.Inactivity as I
-use Rattle.inactivity.specs.Inactivity.{ownsOf, renewed, waiting, ticked, admitted, dueOf, solicitedAt, unsolicitedAt, isIdle, refusalOf}
+use Rattle.inactivity.specs.Inactivity.{ownsOf, renewed, waiting, enough, ticked, admitted, dueOf, solicitedAt, unsolicitedAt, isIdle, refusalOf}
 use Rattle.procedure.specs.declared.StatusKind.{StatusKind}
 use Rattle.procedure.specs.declared.StatusKind.the-variants.{Solicited, Unsolicited}
 use Rattle.procedure.specs.declared.StatusTransmission.{StatusTransmission}
@@ -80,7 +79,7 @@ says e p = record { outcome = gives e; state = p }
 
 -- fewer than 4 tokens left: 18
 unfoldable pub resetOf : ArqProcedure → After Unit ArqProcedure
-resetOf p = onward p (refuse (fewerThan 4 (p .inactivity .«next_token»)) 18 (gives p)) (λ q. says tt (ended q))
+resetOf p = onward p (andThen (enough (p .inactivity)) (λ t. gives (withTimer p t))) (λ q. says tt (ended q))
 
 -- a transaction is held
 abbrev pub activeOf : ArqProcedure → Bool
@@ -94,7 +93,7 @@ pub record Out : Type 0 where
   pub procedure : ArqProcedure
   pub buffer : List ℕ
 
--- a Begin resets the timer
+-- IS-136.1-A 5.4.2: a Begin replaces the transaction, and resets the timer
 abbrev pub begun : Bool → ArqInactivity → ArqInactivity
 begun begin t = cond begin (renewed t) t
 
@@ -148,7 +147,7 @@ decoded p b (refuses n) = refusal n p b
 
 -- fewer than 4 tokens left 18; room under 255 octets 16; the clock gone back 17; then the clock is moved
 abbrev pub lets : ArqInactivity → ℕ → ℕ → Outcome ArqInactivity
-lets t b room = refuse (fewerThan 4 (t .«next_token»)) 18 (refuse (ltb room 255) 16 (ticked t b))
+lets t b room = andThen (enough t) (λ u. refuse (ltb room 255) 16 (ticked u b))
 
 -- at the moved clock, if it comes to that
 abbrev pub goes : ArqProcedure → List ℕ → List ℕ → Outcome ArqInactivity → Out
@@ -160,7 +159,7 @@ receiveOf p block xs b = goes p xs b (lets (p .inactivity) block (length b))
 
 -- ---- advance
 
--- an unsolicited status: echo and map that are held, by contention
+-- IS-136.1-A 5.3.1.2, an unsolicited status: echo and map that are held, by contention
 abbrev pub unsolicited : ArqProcedure → StatusTransmission
 unsolicited p =
     record {

@@ -182,7 +182,7 @@ impl ArqProcedure {
         transaction.held
     }
 
-    // The octets of a frame at a block. A matching Begin replaces the active transaction; a complete message goes to the
+    // IS-136.1-A 5.4.2. The octets of a frame at a block. A matching Begin replaces the active transaction; a complete message goes to the
     // front of the buffer.
     pub fn receive(self, tdma_block: u64, octets: &[u8], buffer: &mut [u8]) -> Received
         requires { ⌜ Sound self ⌝ }

@@ -32,7 +32,7 @@ fn event(p: ArqProcedure, event: TimerEvent) -> Advanced
     }
 }
 
-// Echo and map that are held, by contention.
+// IS-136.1-A 5.3.1.2: unsolicited access uses contention. Echo and map that are held.
 fn unsolicited(p: ArqProcedure) -> StatusTransmission
     ensures { λ r. ⌜ r ≡ unsolicited p ⌝ }
 {

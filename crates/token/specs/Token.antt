@@ -9,8 +9,8 @@ abbrev pub stop : ℕ
 stop = 18446744073709551615
 
 -- the number after n
-abbrev pub after : ℕ → ℕ
-after n = min (n + 1) stop
+abbrev pub numberAfter : ℕ → ℕ
+numberAfter n = min (n + 1) stop
 
 -- whether fewer than k tokens are left: 2^64 − 1 less the next
 abbrev pub fewerThan : ℕ → ℕ → Bool

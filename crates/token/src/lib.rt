@@ -1,10 +1,10 @@
 // Tokens are numbers of a rising counter that stops at 2^64 - 1.
 ghost use mathlib.Core.Path.{_≡_};
-ghost use Rattle.token.specs.Token.{after, fewerThan};
+ghost use Rattle.token.specs.Token.{numberAfter, fewerThan};
 
 // The number after n.
 pub fn number_after(n: u64) -> u64
-    ensures { λ r. ⌜ r ≡ after n ⌝ }
+    ensures { λ r. ⌜ r ≡ numberAfter n ⌝ }
 {
     if n < 18446744073709551615 {
         return n + 1;

@@ -21,7 +21,7 @@ enum-known-admission-2 c = search needs
 
 due-requires : tie.Need-due-requires
 due-requires c κs =
-    let a = c .before .before .before .before .args in sound-admitted (a .self) (a .block) (sym (c .before .before .before .admit .ensures) ∙ ap admission (c .before .admission2 .given .1)) (c .before .before .before .before .pre)
+    let a = c .before .before .before .before .args in sound-admitted (a .self) (a .tdma-block) (sym (c .before .before .before .admit .ensures) ∙ ap admission (c .before .admission2 .given .1)) (c .before .before .before .before .pre)
 
 act-requires : tie.Need-act-requires
 act-requires c κs = search needs
@@ -30,13 +30,13 @@ returns : tie.Need-returns
 unfolding advanceOf
 returns c =
     let a = c .before .before .before .before .before .args in
-    kept (admit-stops (a .self) (a .block) (λ t. acts (dueOf t)) (c .before .before .before .before .admit .ensures) (c .before .before .admission .given .1) (c .refuse .ensures)) (sound-advance _ _ (c .before .before .before .before .before .pre))
+    kept (admit-stops (a .self) (a .tdma-block) (λ t. acts (dueOf t)) (c .before .before .before .before .admit .ensures) (c .before .before .admission .given .1) (c .refuse .ensures)) (sound-advance _ _ (c .before .before .before .before .before .pre))
 
 returns-2 : tie.Need-returns-2
 unfolding advanceOf
 returns-2 c =
     let a = c .before .before .before .before .before .before .args in
-    kept (admit-passes (a .self) (a .block) (λ t. acts (dueOf t)) (c .before .before .before .before .before .admit .ensures) (c .before .before .before .admission2 .given .1) (c .act .ensures ∙ ap acts (c .before .due .ensures))) (sound-advance _ _ (c .before .before .before .before .before .before .pre))
+    kept (admit-passes (a .self) (a .tdma-block) (λ t. acts (dueOf t)) (c .before .before .before .before .before .admit .ensures) (c .before .before .before .admission2 .given .1) (c .act .ensures ∙ ap acts (c .before .due .ensures))) (sound-advance _ _ (c .before .before .before .before .before .before .pre))
 
 pub advance-spec : {M : Type 1} → statement M
 advance-spec =

@@ -13,7 +13,7 @@ enum-told c = search needs
 
 returns : tie.Need-returns
 returns c =
-    let a = c .before .before .before .args in kept (received-stops (a .self) (a .block) (c .before .before .observe .ensures .0) (c .enum-told .given .1)) (sound-received-frame _ _ (c .before .before .before .pre))
+    let a = c .before .before .before .args in kept (received-stops (a .self) (a .tdma-block) (c .before .before .observe .ensures .0) (c .enum-told .given .1)) (sound-received-frame _ _ (c .before .before .before .pre))
 
 enum-told-2 : tie.Need-enum-told-2
 enum-told-2 c = search needs
@@ -23,7 +23,7 @@ wait-requires c κs = search needs
 
 returns-2 : tie.Need-returns-2
 returns-2 c =
-    let a = c .before .before .before .before .before .args in kept (received-goes (a .self) (a .block) (c .before .before .before .before .observe .ensures .0) (c .before .before .enum-told2 .given .1) (c .wait .ensures)) (sound-received-frame _ _ (c .before .before .before .before .before .pre))
+    let a = c .before .before .before .before .before .args in kept (received-goes (a .self) (a .tdma-block) (c .before .before .before .before .observe .ensures .0) (c .before .before .enum-told2 .given .1) (c .wait .ensures)) (sound-received-frame _ _ (c .before .before .before .before .before .pre))
 
 pub received-frame-spec : {M : Type 1} → statement M
 received-frame-spec =

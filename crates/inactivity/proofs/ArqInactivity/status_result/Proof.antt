@@ -19,7 +19,7 @@ act-requires c κs = search needs
 returns : tie.Need-returns
 returns c =
     let a = c .before .before .before .before .args in
-    kept (reported-foreign (a .self) (a .token) (a .block) (resultAt (a .solicited) (a .result)) (c .before .before .before .owns .result) (c .before .before .before .owns .ensures) (c .before .before .if1 .taken) (c .act .ensures ∙ ap acts (c .before .turned .ensures))) (sound-reported (a .solicited) (a .self) (a .token) (a .block) (a .result) (c .before .before .before .before .pre))
+    kept (reported-foreign (a .self) (a .token) (a .tdma-block) (resultAt (a .solicited) (a .result)) (c .before .before .before .owns .result) (c .before .before .before .owns .ensures) (c .before .before .if1 .taken) (c .act .ensures ∙ ap acts (c .before .turned .ensures))) (sound-reported (a .solicited) (a .self) (a .token) (a .tdma-block) (a .result) (c .before .before .before .before .pre))
 
 admit-requires : tie.Need-admit-requires
 admit-requires c κs = search needs
@@ -42,12 +42,12 @@ act-requires-2 c κs = search needs
 returns-2 : tie.Need-returns-2
 returns-2 c =
     let a = c .before .before .before .before .before .before .before .args in
-    kept (reported-stops (a .self) (a .token) (a .block) (resultAt (a .solicited) (a .result)) (c .before .before .before .before .before .before .owns .result) (c .before .before .before .before .before .before .owns .ensures) (c .before .before .before .before .before .if1 .left) (c .before .before .before .before .admit .ensures) (c .before .before .admission .given .1) (c .refuse .ensures)) (sound-reported (a .solicited) (a .self) (a .token) (a .block) (a .result) (c .before .before .before .before .before .before .before .pre))
+    kept (reported-stops (a .self) (a .token) (a .tdma-block) (resultAt (a .solicited) (a .result)) (c .before .before .before .before .before .before .owns .result) (c .before .before .before .before .before .before .owns .ensures) (c .before .before .before .before .before .if1 .left) (c .before .before .before .before .admit .ensures) (c .before .before .admission .given .1) (c .refuse .ensures)) (sound-reported (a .solicited) (a .self) (a .token) (a .tdma-block) (a .result) (c .before .before .before .before .before .before .before .pre))
 
 returns-3 : tie.Need-returns-3
 returns-3 c =
     let a = c .before .before .before .before .before .before .before .before .args in
-    kept (reported-goes (a .self) (a .token) (a .block) (resultAt (a .solicited) (a .result)) (c .before .before .before .before .before .before .before .owns .result) (c .before .before .before .before .before .before .before .owns .ensures) (c .before .before .before .before .before .before .if1 .left) (c .before .before .before .before .before .admit .ensures) (c .before .before .before .admission2 .given .1) (c .act2 .ensures ∙ ap acts (c .before .result-at .ensures))) (sound-reported (a .solicited) (a .self) (a .token) (a .block) (a .result) (c .before .before .before .before .before .before .before .before .pre))
+    kept (reported-goes (a .self) (a .token) (a .tdma-block) (resultAt (a .solicited) (a .result)) (c .before .before .before .before .before .before .before .owns .result) (c .before .before .before .before .before .before .before .owns .ensures) (c .before .before .before .before .before .before .if1 .left) (c .before .before .before .before .before .admit .ensures) (c .before .before .before .admission2 .given .1) (c .act2 .ensures ∙ ap acts (c .before .result-at .ensures))) (sound-reported (a .solicited) (a .self) (a .token) (a .tdma-block) (a .result) (c .before .before .before .before .before .before .before .before .pre))
 
 pub status-result-spec : {M : Type 1} → statement M
 status-result-spec =
