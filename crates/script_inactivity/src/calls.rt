@@ -1,5 +1,5 @@
 // A function for each operation.
-use super::TimerRan;
+use super::Ran;
 use super::TimerSlot;
 use super::values;
 use inactivity::Acted;
@@ -16,21 +16,21 @@ ghost use Rattle.inactivity.specs.Inactivity.{Sound};
 ghost use Rattle.script_wire.specs.Answer.{Ready, Answered};
 
 // The timer after a call, which gave a value or was refused by a number.
-fn reply(timer: ArqInactivity, number: u8, value: Value, answers: &mut [u8], to: usize) -> TimerRan
-    requires { ⌜ (to + (1 + value .0) ≤ length (now answers)) × (value .0 ≤ 8) × Sound timer ⌝ }
+fn reply(t: ArqInactivity, number: u8, value: Value, answers: &mut [u8], to: usize) -> Ran
+    requires { ⌜ (to + (1 + value .0) ≤ length (now answers)) × (value .0 ≤ 8) × Sound t ⌝ }
     ensures { λ r. ⌜ Answered (1 + value .0) to (r .answered) (now (answers .entry)) (now (answers .exit)) × Sound (r .slot .timer) ⌝ }
 {
     let length = script_wire::reply(answers, to, number, value);
-    TimerRan {
+    Ran {
         slot: TimerSlot {
             present: true,
-            timer: timer,
+            timer: t,
         },
         answered: length,
     }
 }
 
-pub fn op_timer(script: &[u8], at: usize, answers: &mut [u8], to: usize) -> TimerRan
+pub fn op_timer(script: &[u8], at: usize, answers: &mut [u8], to: usize) -> Ran
     requires { ⌜ Ready 8 1 at to (now script) (now answers) ⌝ }
     ensures { λ r. ⌜ Answered 1 to (r .answered) (now (answers .entry)) (now (answers .exit)) × Sound (r .slot .timer) ⌝ }
 {
@@ -38,34 +38,28 @@ pub fn op_timer(script: &[u8], at: usize, answers: &mut [u8], to: usize) -> Time
     reply(timer, 0, Value(0, 0), answers, to)
 }
 
-pub fn op_token(timer: ArqInactivity, answers: &mut [u8], to: usize) -> TimerRan
-    requires { ⌜ (to + 9 ≤ length (now answers)) × Sound timer ⌝ }
+pub fn op_token(t: ArqInactivity, answers: &mut [u8], to: usize) -> Ran
+    requires { ⌜ (to + 9 ≤ length (now answers)) × Sound t ⌝ }
     ensures { λ r. ⌜ Answered 9 to (r .answered) (now (answers .entry)) (now (answers .exit)) × Sound (r .slot .timer) ⌝ }
 {
-    let token = timer.token();
-    reply(timer, 0, Value(8, token.0), answers, to)
+    let token = t.token();
+    reply(t, 0, Value(8, token.0), answers, to)
 }
 
-pub fn op_owns(
-    timer: ArqInactivity,
-    script: &[u8],
-    at: usize,
-    answers: &mut [u8],
-    to: usize,
-) -> TimerRan
-    requires { ⌜ Ready 8 2 at to (now script) (now answers) × Sound timer ⌝ }
+pub fn op_owns(t: ArqInactivity, script: &[u8], at: usize, answers: &mut [u8], to: usize) -> Ran
+    requires { ⌜ Ready 8 2 at to (now script) (now answers) × Sound t ⌝ }
     ensures { λ r. ⌜ Answered 2 to (r .answered) (now (answers .entry)) (now (answers .exit)) × Sound (r .slot .timer) ⌝ }
 {
     let token = TransactionToken(script_wire::eight(script, at));
-    let owns = timer.owns(token);
-    reply(timer, 0, Value(1, owns as u64), answers, to)
+    let owns = t.owns(token);
+    reply(t, 0, Value(1, owns as u64), answers, to)
 }
 
-pub fn op_reset(timer: ArqInactivity, answers: &mut [u8], to: usize) -> TimerRan
-    requires { ⌜ (to + 1 ≤ length (now answers)) × Sound timer ⌝ }
+pub fn op_reset(t: ArqInactivity, answers: &mut [u8], to: usize) -> Ran
+    requires { ⌜ (to + 1 ≤ length (now answers)) × Sound t ⌝ }
     ensures { λ r. ⌜ Answered 1 to (r .answered) (now (answers .entry)) (now (answers .exit)) × Sound (r .slot .timer) ⌝ }
 {
-    let done = timer.reset();
+    let done = t.reset();
     let verdict = done.verdict;
     let after = done.timer;
     let number = script_leaf::identities::number_of(verdict);
@@ -80,7 +74,7 @@ fn clock_octet(answer: ClockAnswer) -> u8 {
     }
 }
 
-fn answer_clock(seen: Observed, answers: &mut [u8], to: usize) -> TimerRan
+fn answer_clock(seen: Observed, answers: &mut [u8], to: usize) -> Ran
     requires { ⌜ (to + 1 ≤ length (now answers)) × Sound (seen .timer) ⌝ }
     ensures { λ r. ⌜ Answered 1 to (r .answered) (now (answers .entry)) (now (answers .exit)) × Sound (r .slot .timer) ⌝ }
 {
@@ -89,37 +83,25 @@ fn answer_clock(seen: Observed, answers: &mut [u8], to: usize) -> TimerRan
     reply(after, clock_octet(answer), Value(0, 0), answers, to)
 }
 
-pub fn op_observe(
-    timer: ArqInactivity,
-    script: &[u8],
-    at: usize,
-    answers: &mut [u8],
-    to: usize,
-) -> TimerRan
-    requires { ⌜ Ready 8 1 at to (now script) (now answers) × Sound timer ⌝ }
+pub fn op_observe(t: ArqInactivity, script: &[u8], at: usize, answers: &mut [u8], to: usize) -> Ran
+    requires { ⌜ Ready 8 1 at to (now script) (now answers) × Sound t ⌝ }
     ensures { λ r. ⌜ Answered 1 to (r .answered) (now (answers .entry)) (now (answers .exit)) × Sound (r .slot .timer) ⌝ }
 {
-    answer_clock(timer.observe(script_wire::eight(script, at)), answers, to)
+    answer_clock(t.observe(script_wire::eight(script, at)), answers, to)
 }
 
-pub fn op_received(
-    timer: ArqInactivity,
-    script: &[u8],
-    at: usize,
-    answers: &mut [u8],
-    to: usize,
-) -> TimerRan
-    requires { ⌜ Ready 8 1 at to (now script) (now answers) × Sound timer ⌝ }
+pub fn op_received(t: ArqInactivity, script: &[u8], at: usize, answers: &mut [u8], to: usize) -> Ran
+    requires { ⌜ Ready 8 1 at to (now script) (now answers) × Sound t ⌝ }
     ensures { λ r. ⌜ Answered 1 to (r .answered) (now (answers .entry)) (now (answers .exit)) × Sound (r .slot .timer) ⌝ }
 {
     answer_clock(
-        timer.received_frame(script_wire::eight(script, at)),
+        t.received_frame(script_wire::eight(script, at)),
         answers,
         to,
     )
 }
 
-fn answer_action(acted: Acted, answers: &mut [u8], to: usize) -> TimerRan
+fn answer_action(acted: Acted, answers: &mut [u8], to: usize) -> Ran
     requires { ⌜ (to + 2 ≤ length (now answers)) × Sound (acted .timer) ⌝ }
     ensures { λ r. ⌜ Answered 2 to (r .answered) (now (answers .entry)) (now (answers .exit)) × Sound (r .slot .timer) ⌝ }
 {
@@ -136,17 +118,11 @@ fn answer_action(acted: Acted, answers: &mut [u8], to: usize) -> TimerRan
     }
 }
 
-pub fn op_advance(
-    timer: ArqInactivity,
-    script: &[u8],
-    at: usize,
-    answers: &mut [u8],
-    to: usize,
-) -> TimerRan
-    requires { ⌜ Ready 8 2 at to (now script) (now answers) × Sound timer ⌝ }
+pub fn op_advance(t: ArqInactivity, script: &[u8], at: usize, answers: &mut [u8], to: usize) -> Ran
+    requires { ⌜ Ready 8 2 at to (now script) (now answers) × Sound t ⌝ }
     ensures { λ r. ⌜ Answered 2 to (r .answered) (now (answers .entry)) (now (answers .exit)) × Sound (r .slot .timer) ⌝ }
 {
-    answer_action(timer.advance(script_wire::eight(script, at)), answers, to)
+    answer_action(t.advance(script_wire::eight(script, at)), answers, to)
 }
 
 // What a result operand names.
@@ -161,45 +137,41 @@ pub fn result_of(octet: u8) -> StatusResult {
 // TIMER_UNSOLICITED, or TIMER_SOLICITED.
 pub fn op_result(
     unsolicited: bool,
-    timer: ArqInactivity,
+    t: ArqInactivity,
     script: &[u8],
     at: usize,
     answers: &mut [u8],
     to: usize,
-) -> TimerRan
-    requires { ⌜ Ready 17 2 at to (now script) (now answers) × Sound timer ⌝ }
+) -> Ran
+    requires { ⌜ Ready 17 2 at to (now script) (now answers) × Sound t ⌝ }
     ensures { λ r. ⌜ Answered 2 to (r .answered) (now (answers .entry)) (now (answers .exit)) × Sound (r .slot .timer) ⌝ }
 {
     if 1 < script[at + 16] {
-        return reply(timer, 255, Value(1, 0), answers, to);
+        return reply(t, 255, Value(1, 0), answers, to);
     }
     let token = TransactionToken(script_wire::eight(script, at));
     let block = script_wire::eight(script, at + 8);
     let result = result_of(script[at + 16]);
     if unsolicited {
         return answer_action(
-            timer.unsolicited_status_result(token, block, result),
+            t.unsolicited_status_result(token, block, result),
             answers,
             to,
         );
     }
-    answer_action(
-        timer.solicited_status_result(token, block, result),
-        answers,
-        to,
-    )
+    answer_action(t.solicited_status_result(token, block, result), answers, to)
 }
 
-pub fn op_state(timer: ArqInactivity, answers: &mut [u8], to: usize) -> TimerRan
-    requires { ⌜ (to + 35 ≤ length (now answers)) × Sound timer ⌝ }
+pub fn op_state(t: ArqInactivity, answers: &mut [u8], to: usize) -> Ran
+    requires { ⌜ (to + 35 ≤ length (now answers)) × Sound t ⌝ }
     ensures { λ r. ⌜ Answered 35 to (r .answered) (now (answers .entry)) (now (answers .exit)) × Sound (r .slot .timer) ⌝ }
 {
-    let octets = values::timer_octets(timer);
+    let octets = values::timer_octets(t);
     let length = script_wire::answer_octets(answers, to, &octets);
-    TimerRan {
+    Ran {
         slot: TimerSlot {
             present: true,
-            timer: timer,
+            timer: t,
         },
         answered: length,
     }

@@ -1,6 +1,5 @@
 // The operations on a procedure.
 pub mod calls;
-mod values;
 
 use procedure::ArqProcedure;
 use rach::MobileIdentity;
@@ -19,13 +18,13 @@ pub struct ProcedureSlot {
 }
 
 // The slot after an operation, and how many octets it answered.
-pub struct ProcedureRan {
+pub struct Ran {
     pub slot: ProcedureSlot,
     pub answered: usize,
 }
 
 // The same of a procedure that is there.
-pub struct Called {
+pub struct Done {
     pub procedure: ArqProcedure,
     pub answered: usize,
 }
@@ -49,12 +48,12 @@ pub fn no_procedure() -> ProcedureSlot
 }
 
 // The number octet alone.
-fn plain(slot: ProcedureSlot, number: u8, answers: &mut [u8], to: usize) -> ProcedureRan
+fn plain(slot: ProcedureSlot, number: u8, answers: &mut [u8], to: usize) -> Ran
     requires { ⌜ (to + 1 ≤ length (now answers)) × Sound (slot .procedure) ⌝ }
     ensures { λ r. ⌜ Answered 1 to (r .answered) (now (answers .entry)) (now (answers .exit)) × Sound (r .slot .procedure) ⌝ }
 {
     let length = script_wire::answer(answers, to, number);
-    ProcedureRan {
+    Ran {
         slot: slot,
         answered: length,
     }
@@ -83,13 +82,7 @@ fn open(identity: MobileIdentity, first: u64) -> Opened
     }
 }
 
-fn op_procedure(
-    slot: ProcedureSlot,
-    script: &[u8],
-    at: usize,
-    answers: &mut [u8],
-    to: usize,
-) -> ProcedureRan
+fn op_procedure(slot: ProcedureSlot, script: &[u8], at: usize, answers: &mut [u8], to: usize) -> Ran
     requires { ⌜ Ready 17 1 at to (now script) (now answers) × Sound (slot .procedure) ⌝ }
     ensures { λ r. ⌜ Answered 1 to (r .answered) (now (answers .entry)) (now (answers .exit)) × Sound (r .slot .procedure) ⌝ }
 {
@@ -109,7 +102,7 @@ fn run_call(
     at: usize,
     answers: &mut [u8],
     to: usize,
-) -> Called
+) -> Done
     requires { ⌜ Ready (operandsOf op) (longestOf op) at to (now script) (now answers) × Sound procedure × (33 ≤ op) × (op ≤ 38) ⌝ }
     ensures { λ r. ⌜ Answered (longestOf op) to (r .answered) (now (answers .entry)) (now (answers .exit)) × Sound (r .procedure) ⌝ }
 {
@@ -131,7 +124,7 @@ pub fn run(
     at: usize,
     answers: &mut [u8],
     to: usize,
-) -> ProcedureRan
+) -> Ran
     requires { ⌜ Ready (operandsOf op) (longestOf op) at to (now script) (now answers) × Sound (slot .procedure) × (1 ≤ longestOf op) × (32 ≤ op) × (op ≤ 38) ⌝ }
     ensures { λ r. ⌜ Answered (longestOf op) to (r .answered) (now (answers .entry)) (now (answers .exit)) × Sound (r .slot .procedure) ⌝ }
 {
@@ -142,13 +135,13 @@ pub fn run(
         return plain(slot, 255, answers, to);
     }
     let procedure = slot.procedure;
-    let called = run_call(op, procedure, script, at, answers, to);
-    let after = called.procedure;
-    ProcedureRan {
+    let done = run_call(op, procedure, script, at, answers, to);
+    let after = done.procedure;
+    Ran {
         slot: ProcedureSlot {
             present: true,
             procedure: after,
         },
-        answered: called.answered,
+        answered: done.answered,
     }
 }
