@@ -1,0 +1,91 @@
+-- 01's numbers for the answers of the sender's calls, and what a call leaves, read as the definitions speak of it.
+-- Assumes nothing.
+use mathlib.Core.Bool.{Bool}
+use mathlib.Core.Option.{Option}
+use Prim.Native.Nat.{ℕ}
+use Rattle.spach.specs.Refusal.{Outcome, gives, refuses, numberOf, andThen, After}
+use Rattle.sender.specs.declared.TransferToken.{TransferToken}
+use Rattle.sender.specs.declared.Error.{Error}
+use Rattle.sender.specs.declared.Error.the-variants.{Limits, Capacity, EchoExhausted, Clock, Deadline, Stale, Wire}
+use Rattle.sender.specs.declared.PreparedFrame.{PreparedFrame}
+use Rattle.sender.specs.declared.Verdict.{Verdict}
+use Rattle.sender.specs.declared.Verdict.the-variants as verdicts
+use Rattle.sender.specs.declared.Moved.{Moved}
+use Rattle.sender.specs.declared.EnqueueAnswer.{EnqueueAnswer}
+use Rattle.sender.specs.declared.EnqueueAnswer.the-variants as enqueues
+use Rattle.sender.specs.declared.Enqueued.{Enqueued}
+use Rattle.sender.specs.declared.Prepared.{Prepared}
+use Rattle.sender.specs.declared.FoundAnswer.{FoundAnswer}
+use Rattle.sender.specs.declared.FoundAnswer.the-variants as founds
+use Rattle.sender.specs.declared.Sought.{Sought}
+use Rattle.sender.specs.declared.Confirmation.{Confirmation}
+use Rattle.sender.specs.declared.ConfirmationAnswer.{ConfirmationAnswer}
+use Rattle.sender.specs.declared.ConfirmationAnswer.the-variants as confirmations
+use Rattle.sender.specs.declared.Confirmed.{Confirmed}
+use Rattle.sender.specs.declared.Cancelled.{Cancelled}
+use Rattle.sender.specs.declared.NextEvent.{NextEvent}
+use Rattle.sender.specs.declared.Popped.{Popped}
+use Rattle.sender.specs.State.{View, Lent, Out, viewOf, selectionOf, says}
+
+-- the sender's numbers; a Wire error keeps its own
+abbrev pub refusalOf : Error → ℕ
+refusalOf Limits = 19
+refusalOf Capacity = 20
+refusalOf EchoExhausted = 21
+refusalOf Clock = 22
+refusalOf Deadline = 23
+refusalOf Stale = 24
+refusalOf (Wire e) = numberOf e
+
+-- ---- answers
+
+abbrev pub verdictOf : Verdict → Outcome Unit
+verdictOf verdicts.Accepted = gives tt
+verdictOf (verdicts.Refused e) = refuses (refusalOf e)
+
+abbrev pub enqueueAnswer : EnqueueAnswer → Outcome TransferToken
+enqueueAnswer (enqueues.Transfer t) = gives t
+enqueueAnswer (enqueues.Refused e) = refuses (refusalOf e)
+
+abbrev pub preparedAnswer : Prepared → Outcome (Option PreparedFrame)
+preparedAnswer r = andThen (verdictOf (r .verdict)) (λ u. gives (selectionOf (r .selection)))
+
+abbrev pub foundAnswer : FoundAnswer → Outcome Bool
+foundAnswer (founds.Found b) = gives b
+foundAnswer (founds.Refused e) = refuses (refusalOf e)
+
+abbrev pub confirmationAnswer : ConfirmationAnswer → Outcome Confirmation
+confirmationAnswer (confirmations.Confirmation c) = gives c
+confirmationAnswer (confirmations.Refused e) = refuses (refusalOf e)
+
+-- ---- with the sender afterwards, and the lent memory where it is written
+
+abbrev pub made : Moved → Outcome Unit × View
+made r = (verdictOf (r .verdict), viewOf (r .sender))
+
+-- `advance` and `refresh_waiting`
+abbrev pub moved : Moved → After Unit View
+moved r = record { outcome = verdictOf (r .verdict); state = viewOf (r .sender) }
+
+abbrev pub submitted : Moved → Lent → Out Unit
+submitted r m = record { outcome = verdictOf (r .verdict); sender = viewOf (r .sender); lent = m }
+
+abbrev pub enqueued : Enqueued → Lent → Out TransferToken
+enqueued r m = record { outcome = enqueueAnswer (r .answer); sender = viewOf (r .sender); lent = m }
+
+abbrev pub prepared : Prepared → After (Option PreparedFrame) View
+prepared r = record { outcome = preparedAnswer r; state = viewOf (r .sender) }
+
+-- `interrupt` and `status`
+abbrev pub sought : Sought → After Bool View
+sought r = record { outcome = foundAnswer (r .answer); state = viewOf (r .sender) }
+
+abbrev pub confirmed : Confirmed → After Confirmation View
+confirmed r = record { outcome = confirmationAnswer (r .answer); state = viewOf (r .sender) }
+
+-- `cancel` and `cancel_transaction`
+abbrev pub cancelled : Cancelled → After Bool View
+cancelled r = says (r .found) (viewOf (r .sender))
+
+abbrev pub popped : Popped → After NextEvent View
+popped r = says (r .next) (viewOf (r .sender))
