@@ -1,2 +1,5 @@
 pub mod Samples
 pub mod Fresh
+pub mod Frames
+pub mod Around
+pub mod Stored

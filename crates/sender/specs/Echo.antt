@@ -6,6 +6,8 @@ use mathlib.Core.Option.{Option, none, some}
 use Prim.Native.Nat.{ℕ, _+_, _%_}
 use lib.Dec.{leb, ltb}
 use lib.ListN.{take, drop, set}
+use Rattle.sender.specs.declared.FreeEcho.{FreeEcho}
+use Rattle.sender.specs.declared.FreeEcho.the-variants.{Nothing, Echo}
 use Rattle.sender.specs.Lists.{position}
 use Rattle.sender.specs.State.{Limits, Echoes}
 
@@ -22,6 +24,11 @@ unfoldable pub freeEcho : Echoes → (now : ℕ) → Option ℕ
 freeEcho e now =
     let offset = position (free now) (around e) in
     cond (ltb offset 128) (some ((e .«next_echo» + offset) % 128)) none
+
+-- what the search answers
+abbrev pub freeAnswer : FreeEcho → Option ℕ
+freeAnswer Nothing = none
+freeAnswer (Echo echo) = some echo
 
 -- deadline plus guard: until then an echo is held
 abbrev pub heldUntil : Limits → (deadline : ℕ) → ℕ

@@ -1,4 +1,8 @@
 // The sender: messages cut into frames and sent until their receivers' statuses show them whole.
+pub mod echo;
+pub mod queue;
+pub mod store;
+
 use rach::MobileIdentity;
 use spach::Channel;
 use spach::SpachError;
@@ -93,6 +97,12 @@ pub enum Fate {
     Ends(Event),
     Restarts,
     Stays(Transfer),
+}
+
+// An echo that is not held any more, if there is one.
+pub enum FreeEcho {
+    Nothing,
+    Echo(u8),
 }
 
 // A frame ready to be sent, and the token under which it is reported.
