@@ -35,7 +35,7 @@ use Rattle.procedure.specs.declared.ReceiveEvent.{ReceiveEvent}
 use Rattle.procedure.specs.declared.SendEvent.{SendEvent}
 use Rattle.procedure.specs.declared.SendEvent.the-variants as sends
 use Rattle.procedure.specs.declared.ArqProcedure.{ArqProcedure}
-use Rattle.procedure.specs.Procedure.{Sound, Out, newOf, blankProcedure, withTimer, admits, says, heard, beside, taken, pushes, decoded, lets, goes, receiveOf, sentAt, statusSentOf}
+use Rattle.procedure.specs.Procedure.{Sound, Out, newOf, blankProcedure, withTimer, admits, says, heard, beside, byAnswer, pushes, decoded, letThrough, thenHears, receiveOf, sentAt, statusSentOf}
 use Rattle.procedure.proofs.Kept.{sound-new}
 
 -- ---- the constructor
@@ -87,26 +87,26 @@ module _ (p : ArqProcedure) (b : List ℕ) (f : ArqFrame) where
   begin = byKind (f .kind) true false
 
   abbrev over : R.Out → Out
-  over o = taken begin (o .outcome) (record { receiver = o .receiver; inactivity = p .inactivity }) (o .buffer)
+  over o = byAnswer begin (o .outcome) (record { receiver = o .receiver; inactivity = p .inactivity }) (o .buffer)
 
   module _ (o : Pushed) {c : List ℕ} {y : After ReceiveEvent ArqProcedure} (e : R.pushed o c ≡ pushFrame (p .receiver) b f) where
     pub push-refused : {x : SpachError} → o .answer ≡ pushAnswers.Refused x → y ≡ record { outcome = refuses (numberOf x); state = record { receiver = o .receiver; inactivity = p .inactivity } } → beside y c ≡ pushes p b f
-    push-refused q h = ap (λ a. beside a c) h ∙ ap (λ z. taken begin (R.pushAnswer z) (record { receiver = o .receiver; inactivity = p .inactivity }) c) (sym q) ∙ ap over e
+    push-refused q h = ap (λ a. beside a c) h ∙ ap (λ z. byAnswer begin (R.pushAnswer z) (record { receiver = o .receiver; inactivity = p .inactivity }) c) (sym q) ∙ ap over e
 
     pub push-heard : {x : Reception} {z : Bool} → o .answer ≡ pushAnswers.Reception x → z ≡ byKind (f .kind) true false → y ≡ heard z x (record { receiver = o .receiver; inactivity = p .inactivity }) → beside y c ≡ pushes p b f
     push-heard {x} q k h =
         ap (λ a. beside a c) (h ∙ ap (λ z. heard z x (record { receiver = o .receiver; inactivity = p .inactivity })) k)
-        ∙ ap (λ z. taken begin (R.pushAnswer z) (record { receiver = o .receiver; inactivity = p .inactivity }) c) (sym q) ∙ ap over e
+        ∙ ap (λ z. byAnswer begin (R.pushAnswer z) (record { receiver = o .receiver; inactivity = p .inactivity }) c) (sym q) ∙ ap over e
 
 -- the refusals before it
-module _ (p : ArqProcedure) (block : ℕ) (xs b : List ℕ) {a : Admission} (e : admission a ≡ lets (p .inactivity) block (length b)) where
+module _ (p : ArqProcedure) (block : ℕ) (xs b : List ℕ) {a : Admission} (e : admission a ≡ letThrough (p .inactivity) block (length b)) where
   pub receive-stops : {x : ProcedureError} {y : After ReceiveEvent ArqProcedure} → a ≡ Refused x → y ≡ record { outcome = refuses (refusalOf x); state = p } → beside y b ≡ receiveOf p block xs b
   unfolding receiveOf
-  receive-stops q h = ap (λ z. beside z b) h ∙ ap (goes p xs b) (sym (ap admission q) ∙ e)
+  receive-stops q h = ap (λ z. beside z b) h ∙ ap (thenHears p xs b) (sym (ap admission q) ∙ e)
 
   pub receive-goes : {t : ArqInactivity} {q : ArqProcedure} {y : Out} → a ≡ Admitted t → q ≡ withTimer p t → y ≡ decoded q b (decodeOf xs) → y ≡ receiveOf p block xs b
   unfolding receiveOf
-  receive-goes z w h = h ∙ ap (λ x. decoded x b (decodeOf xs)) w ∙ ap (goes p xs b) (sym (ap admission z) ∙ e)
+  receive-goes z w h = h ∙ ap (λ x. decoded x b (decodeOf xs)) w ∙ ap (thenHears p xs b) (sym (ap admission z) ∙ e)
 
 -- ---- status_sent
 

@@ -34,7 +34,7 @@ use Rattle.procedure.specs.declared.TimerEvent.the-variants.{None, SendS
 use Rattle.procedure.specs.declared.SendEvent.{SendEvent}
 use Rattle.procedure.specs.declared.SendEvent.the-variants as sends
 use Rattle.procedure.specs.declared.ArqProcedure.{ArqProcedure}
-use Rattle.procedure.specs.Procedure.{Sound, withTimer, ended, activeOf, timed, rests, says, accepted, dueAt, advanceOf, reported, statusSentOf}
+use Rattle.procedure.specs.Procedure.{Sound, withTimer, ended, activeOf, timed, endsUnpolled, says, accepted, dueAt, advanceOf, reported, statusSentOf}
 use Rattle.procedure.specs.History.{Call, receive, advance, statusSent, reset, after, runs, Each, AcceptsFrame, Taken, AcceptsResult, AcceptsUnsolicited, Resets, EndsTransaction, present, Pending, NoSecond, Silent, EndsAt32, ForeignForEver}
 use Rattle.procedure.proofs.Kept.{sound-new, sound-receive, sound-advance, sound-status-sent, sound-reset}
 use Rattle.procedure.proofs.Ways.{Clocked, reset-ways, due-ways, advance-ways, sent-ways, receive-ways}
@@ -103,7 +103,7 @@ module _ (p : ArqProcedure) (s : Sound p) where
       n = newer (p .inactivity) (s .inactivity) (c .tokens)
 
       by : (k : FrameKind) (complete : Bool) (r : Request)
-          → let q = rests r complete (record { receiver = x; inactivity = timed (byKind k true false) complete (clocked (p .inactivity) block) }) in (k ≡ Begin) ⊎ (activeOf q ≡ false) → Later q
+          → let q = endsUnpolled r complete (record { receiver = x; inactivity = timed (byKind k true false) complete (clocked (p .inactivity) block) }) in (k ≡ Begin) ⊎ (activeOf q ≡ false) → Later q
       by Begin true requests.Nothing e = let y = n .0 in let z = n .1 in omega arith
       by Begin false requests.Nothing e = n .0
       by Begin true (requests.Status r) e = n .0

@@ -43,7 +43,7 @@ use Rattle.procedure.specs.declared.StatusTransmission.{StatusTransmissi
 use Rattle.procedure.specs.declared.TimerEvent.{TimerEvent}
 use Rattle.procedure.specs.declared.SendEvent.{SendEvent}
 use Rattle.procedure.specs.declared.ArqProcedure.{ArqProcedure}
-use Rattle.procedure.specs.Procedure.{Sound, newOf, withTimer, ended, admits, says, resetOf, activeOf, Out, begun, timed, rests, accepted, taken, pushes, decoded, lets, goes, receiveOf, follows, dueAt, advanceOf, reported, sentAt, statusSentOf}
+use Rattle.procedure.specs.Procedure.{Sound, newOf, withTimer, ended, admits, says, resetOf, activeOf, Out, begun, timed, endsUnpolled, accepted, byAnswer, pushes, decoded, letThrough, thenHears, receiveOf, follows, dueAt, advanceOf, reported, sentAt, statusSentOf}
 
 true-false : {x : Bool} → x ≡ true → x ≡ false → ⊥
 true-false p q = let z : true ≡ false = sym p ∙ q in let w : _≡_ {A = ℕ} 0 1 = cc in absurd (omega arith)
@@ -161,7 +161,7 @@ sound-timed : (begin complete : Bool) (t : ArqInactivity) → I.Sound t → I.So
 sound-timed begin true t h = sound-begun begin t h
 sound-timed begin false t h = K.sound-waiting (begun begin t) (sound-begun begin t h)
 
-sound-rests : (r : Request) (complete : Bool) (p : ArqProcedure) → Sound p → Sound (rests r complete p)
+sound-rests : (r : Request) (complete : Bool) (p : ArqProcedure) → Sound p → Sound (endsUnpolled r complete p)
 sound-rests requests.Nothing true p h = sound-ended p h
 sound-rests requests.Nothing false p h = h
 sound-rests (requests.Status r) complete p h = h
@@ -177,7 +177,7 @@ sound-accepted begin m r p v s a =
 sound-taken : (begin : Bool) (x : Outcome Reception) (o : R.Out) (p : ArqProcedure) → o .outcome ≡ x → Valid (o .receiver)
     → ((m : Delivery) (r : Request) → o .outcome ≡ gives (receptions.Accepted m r) → o .receiver .transaction .held ≡ true)
     → (o .outcome ≡ gives receptions.Ignored → o .receiver ≡ p .receiver) → ((n : ℕ) → o .outcome ≡ refuses n → o .receiver ≡ p .receiver) → Sound p
-    → Sound (taken begin x (record { receiver = o .receiver; inactivity = p .inactivity }) (o .buffer) .procedure)
+    → Sound (byAnswer begin x (record { receiver = o .receiver; inactivity = p .inactivity }) (o .buffer) .procedure)
 sound-taken begin (gives receptions.Ignored) o p e v held ignores stops h = rw (ignores e) h
 sound-taken begin (gives (receptions.Accepted m r)) o p e v held ignores stops h = sound-accepted begin m r (record { receiver = o .receiver; inactivity = p .inactivity }) v (h .inactivity) (held m r e)
 sound-taken begin (refuses n) o p e v held ignores stops h = rw (stops n e) h
@@ -205,16 +205,16 @@ sound-decoded p xs b (gives f) l e h = sound-pushes p xs b f l e h
 sound-decoded p xs b (refuses n) l e h = h
 
 -- what was let through
-pub lets-gives : (t : ArqInactivity) (b room : ℕ) {u : ArqInactivity} → lets t b room ≡ gives u → (255 ≤ room) × (ticked t b ≡ gives u) × (fewerThan 4 (t .«next_token») ≡ false)
-lets-gives t b room {u} e =
+pub let-through-gives : (t : ArqInactivity) (b room : ℕ) {u : ArqInactivity} → letThrough t b room ≡ gives u → (255 ≤ room) × (ticked t b ≡ gives u) × (fewerThan 4 (t .«next_token») ≡ false)
+let-through-gives t b room {u} e =
     let a = then-gives (enough t) (λ x. refuse (ltb room 255) 16 (ticked x b)) e in
     let n = enough-gives t (a .1) in
     let q = passed (ltb room 255) 16 (ticked t b) (subst (λ x. refuse (ltb room 255) 16 (ticked x b) ≡ gives u) (n .1) (a .2)) in
     (ltb-false room 255 (q .0), q .1, n .0)
 
-sound-goes : (p : ArqProcedure) (block : ℕ) (xs b : List ℕ) (x : Outcome ArqInactivity) → lets (p .inactivity) block (length b) ≡ x → Sound p → Sound (goes p xs b x .procedure)
+sound-goes : (p : ArqProcedure) (block : ℕ) (xs b : List ℕ) (x : Outcome ArqInactivity) → letThrough (p .inactivity) block (length b) ≡ x → Sound p → Sound (thenHears p xs b x .procedure)
 sound-goes p block xs b (gives t) e h =
-    let q = lets-gives (p .inactivity) block (length b) e in
+    let q = let-through-gives (p .inactivity) block (length b) e in
     sound-decoded (withTimer p t) xs b (decodeOf xs) (q .0) refl (sound-ticked p block (q .1) h)
 sound-goes p block xs b (refuses n) e h = h
 

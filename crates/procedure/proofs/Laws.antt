@@ -22,7 +22,7 @@ use Rattle.procedure.specs.declared.Transmission.the-variants as transmi
 use Rattle.procedure.specs.declared.ReceiveEvent.the-variants as receives
 use Rattle.procedure.specs.declared.TimerEvent.the-variants.{SendStatus, Terminated}
 use Rattle.procedure.specs.declared.ArqProcedure.{ArqProcedure}
-use Rattle.procedure.specs.Procedure.{Sound, withTimer, accepted, refusal, lets, goes, receiveOf, dueAt, advanceOf}
+use Rattle.procedure.specs.Procedure.{Sound, withTimer, accepted, refusal, letThrough, thenHears, receiveOf, dueAt, advanceOf}
 use Rattle.procedure.specs.History.{present}
 use Rattle.procedure.proofs.Ways.{due-ways, advance-ways, receive-passes, receive-ways}
 use Rattle.procedure.proofs.Steps.{at}
@@ -48,12 +48,12 @@ terminated-takes-two p b =
     (λ k e. absurd (let z : _≡_ {A = ℕ} 0 1 = cc in omega arith)) (λ since st k f e. absurd (let z : _≡_ {A = ℕ} 0 1 = cc in omega arith)) (λ since st k e. refl)))
 
 -- a receive that 18, 16 or 17 refuses leaves the procedure
-pub receive-stops : (p : ArqProcedure) (block : ℕ) (xs b : List ℕ) (n : ℕ) → lets (p .inactivity) block (length b) ≡ refuses n → receiveOf p block xs b ≡ refusal n p b
+pub receive-stops : (p : ArqProcedure) (block : ℕ) (xs b : List ℕ) (n : ℕ) → letThrough (p .inactivity) block (length b) ≡ refuses n → receiveOf p block xs b ≡ refusal n p b
 unfolding receiveOf
-receive-stops p block xs b n e = ap (goes p xs b) e
+receive-stops p block xs b n e = ap (thenHears p xs b) e
 
 -- one that is let through and then refused or Ignored moves the clock, and nothing else: it stays moved, and the wait is not begun anew
-pub receive-moves : (p : ArqProcedure) (block : ℕ) (xs b : List ℕ) {t : ArqInactivity} → lets (p .inactivity) block (length b) ≡ gives t
+pub receive-moves : (p : ArqProcedure) (block : ℕ) (xs b : List ℕ) {t : ArqInactivity} → letThrough (p .inactivity) block (length b) ≡ gives t
     → ((m : Delivery) (x : Transmission) → receiveOf p block xs b .outcome ≡ gives (receives.Accepted m x) → ⊥) → receiveOf p block xs b .procedure ≡ withTimer p (clocked (p .inactivity) block)
 unfolding accepted
 receive-moves p block xs b {t} e =

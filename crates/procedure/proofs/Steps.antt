@@ -23,7 +23,7 @@ use Rattle.procedure.specs.declared.StatusKind.{StatusKind}
 use Rattle.procedure.specs.declared.StatusKind.the-variants.{Solicited, Unsolicited}
 use Rattle.procedure.specs.declared.StatusTransmission.{StatusTransmission}
 use Rattle.procedure.specs.declared.ArqProcedure.{ArqProcedure}
-use Rattle.procedure.specs.Procedure.{Sound, withTimer, ended, begun, timed, rests, accepted, dueAt, reported, statusSentOf}
+use Rattle.procedure.specs.Procedure.{Sound, withTimer, ended, begun, timed, endsUnpolled, accepted, dueAt, reported, statusSentOf}
 use Rattle.procedure.specs.History.{Call, receive, advance, statusSent, reset, after, Taken, AcceptsUnsolicited, present}
 use Rattle.procedure.proofs.Ways.{Clocked, reset-ways, due-ways, advance-ways, sent-ways, receive-ways}
 
@@ -71,7 +71,7 @@ module _ {A : Type 0} (t : ArqInactivity) (s : I.Sound t) (b : ℕ) (later : t .
   ended-turns true = twice
   ended-turns false = once
 
-  rests-turns : (begin complete : Bool) (r : Request) (x : ArqReassembler) → Turnout A t (rests r complete (record { receiver = x; inactivity = timed begin complete (clocked t b) }) .inactivity)
+  rests-turns : (begin complete : Bool) (r : Request) (x : ArqReassembler) → Turnout A t (endsUnpolled r complete (record { receiver = x; inactivity = timed begin complete (clocked t b) }) .inactivity)
   rests-turns begin true requests.Nothing x = ended-turns begin
   rests-turns begin false requests.Nothing x = timed-turns begin false
   rests-turns begin complete (requests.Status r) x = timed-turns begin complete

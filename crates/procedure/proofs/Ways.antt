@@ -36,8 +36,8 @@ use Rattle.procedure.specs.declared.TimerEvent.the-variants.{None, SendS
 use Rattle.procedure.specs.declared.SendEvent.{SendEvent}
 use Rattle.procedure.specs.declared.SendEvent.the-variants as sends
 use Rattle.procedure.specs.declared.ArqProcedure.{ArqProcedure}
-use Rattle.procedure.specs.Procedure.{Out, withTimer, ended, admits, says, resetOf, accepted, taken, decoded, lets, goes, receiveOf, unsolicited, follows, dueAt, advanceOf, reported, sentAt, statusSentOf}
-use Rattle.procedure.proofs.Kept.{lets-gives, ignored-same, refused-same}
+use Rattle.procedure.specs.Procedure.{Out, withTimer, ended, admits, says, resetOf, accepted, byAnswer, decoded, letThrough, thenHears, receiveOf, unsolicited, follows, dueAt, advanceOf, reported, sentAt, statusSentOf}
+use Rattle.procedure.proofs.Kept.{let-through-gives, ignored-same, refused-same}
 
 by-bool : (x : Bool) → (x ≡ true) ⊎ (x ≡ false)
 by-bool true = inl refl
@@ -158,7 +158,7 @@ module _ (P : Outcome ReceiveEvent → ArqProcedure → Type 0) (p : ArqProcedur
     taken-ways : (f : ArqFrame) → decodeOf xs ≡ gives f → (x : Outcome Reception) (o : R.Out) (q : ArqProcedure) → Clocked p block q → o .outcome ≡ x
         → ((m : Delivery) (r : Request) → o .outcome ≡ gives (receptions.Accepted m r) → o .receiver .transaction .held ≡ true)
         → (o .outcome ≡ gives receptions.Ignored → o .receiver ≡ q .receiver) → ((n : ℕ) → o .outcome ≡ refuses n → o .receiver ≡ q .receiver)
-        → PO (taken (byKind (f .kind) true false) x (record { receiver = o .receiver; inactivity = q .inactivity }) (o .buffer))
+        → PO (byAnswer (byKind (f .kind) true false) x (record { receiver = o .receiver; inactivity = q .inactivity }) (o .buffer))
     taken-ways f d (gives receptions.Ignored) o q c e h i n = rw (i e) (ignores q c)
     taken-ways f d (gives (receptions.Accepted m r)) o q c e h i n = accepts q c f d m r (o .receiver) (h m r e)
     taken-ways f d (refuses k) o q c e h i n = rw (n k e) (halts q k c)
@@ -169,20 +169,20 @@ module _ (P : Outcome ReceiveEvent → ArqProcedure → Type 0) (p : ArqProcedur
         taken-ways f e (pushFrame s b f .outcome) (pushFrame s b f) q c refl (accepted-held s f b) (ignored-same s xs b f l e) (λ n. refused-same s xs b f n l e)
     decoded-ways q c l (refuses n) e = halts q n c
 
-    let-through : {t : ArqInactivity} → lets (p .inactivity) block (length b) ≡ gives t → PO (decoded (withTimer p t) b (decodeOf xs))
+    let-through : {t : ArqInactivity} → letThrough (p .inactivity) block (length b) ≡ gives t → PO (decoded (withTimer p t) b (decodeOf xs))
     let-through {t} e =
-        let k = lets-gives (p .inactivity) block (length b) e in
+        let k = let-through-gives (p .inactivity) block (length b) e in
         let z = ticked-gives (p .inactivity) block (k .1) in
         decoded-ways (withTimer p t) (record { tokens = k .2; later = z .1; here = ap (withTimer p) (z .0) }) (k .0) (decodeOf xs) refl
 
   -- where 18, 16 and 17 let it through
-  pub receive-passes : {t : ArqInactivity} → lets (p .inactivity) block (length b) ≡ gives t → ((q : ArqProcedure) (n : ℕ) → Clocked p block q → P (refuses n) q)
+  pub receive-passes : {t : ArqInactivity} → letThrough (p .inactivity) block (length b) ≡ gives t → ((q : ArqProcedure) (n : ℕ) → Clocked p block q → P (refuses n) q)
       → ((q : ArqProcedure) → Clocked p block q → P (gives receives.Ignored) q)
       → ((q : ArqProcedure) → Clocked p block q → (f : ArqFrame) → decodeOf xs ≡ gives f → (m : Delivery) (r : Request) (s : ArqReassembler) → s .transaction .held ≡ true
       → let a = accepted (byKind (f .kind) true false) m r (record { receiver = s; inactivity = q .inactivity }) in P (a .outcome) (a .state))
       → P (receiveOf p block xs b .outcome) (receiveOf p block xs b .procedure)
   unfolding receiveOf
-  receive-passes e halts ignores accepts = subst (λ o. PO (goes p xs b o)) (sym e) (let-through halts ignores accepts e)
+  receive-passes e halts ignores accepts = subst (λ o. PO (thenHears p xs b o)) (sym e) (let-through halts ignores accepts e)
 
   -- and where they do not
   pub receive-ways : ((n : ℕ) → P (refuses n) p) → ((q : ArqProcedure) (n : ℕ) → Clocked p block q → P (refuses n) q) → ((q : ArqProcedure) → Clocked p block q → P (gives receives.Ignored) q)
@@ -190,8 +190,8 @@ module _ (P : Outcome ReceiveEvent → ArqProcedure → Type 0) (p : ArqProcedur
       → let a = accepted (byKind (f .kind) true false) m r (record { receiver = s; inactivity = q .inactivity }) in P (a .outcome) (a .state))
       → P (receiveOf p block xs b .outcome) (receiveOf p block xs b .procedure)
   unfolding receiveOf
-  receive-ways stops halts ignores accepts = by (lets (p .inactivity) block (length b)) refl
+  receive-ways stops halts ignores accepts = by (letThrough (p .inactivity) block (length b)) refl
     where
-      by : (o : Outcome ArqInactivity) → lets (p .inactivity) block (length b) ≡ o → PO (goes p xs b o)
+      by : (o : Outcome ArqInactivity) → letThrough (p .inactivity) block (length b) ≡ o → PO (thenHears p xs b o)
       by (gives t) e = let-through halts ignores accepts e
       by (refuses n) e = stops n

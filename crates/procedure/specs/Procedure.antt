@@ -107,16 +107,16 @@ polled requests.Nothing t complete = transmissions.Nothing
 polled (requests.Status r) t complete = transmissions.Status (record { request = r; token = t .transaction; kind = Solicited; «complete_at_poll» = complete })
 
 -- a complete message whose frame was not polled ends the transaction
-abbrev pub rests : Request → Bool → ArqProcedure → ArqProcedure
-rests requests.Nothing complete p = cond complete (ended p) p
-rests (requests.Status r) complete p = p
+abbrev pub endsUnpolled : Request → Bool → ArqProcedure → ArqProcedure
+endsUnpolled requests.Nothing complete p = cond complete (ended p) p
+endsUnpolled (requests.Status r) complete p = p
 
 -- a frame that the receiver accepted: `begin` if it is a Begin
 unfoldable pub accepted : Bool → Delivery → Request → ArqProcedure → After ReceiveEvent ArqProcedure
 accepted begin m r p =
     let complete = completeOf (p .receiver) in
     let t = timed begin complete (p .inactivity) in
-    says (receives.Accepted m (polled r t complete)) (rests r complete (withTimer p t))
+    says (receives.Accepted m (polled r t complete)) (endsUnpolled r complete (withTimer p t))
 
 -- by what the receiver says of it
 abbrev pub heard : Bool → Reception → ArqProcedure → After ReceiveEvent ArqProcedure
@@ -132,13 +132,13 @@ abbrev pub refusal : ℕ → ArqProcedure → List ℕ → Out
 refusal n p b = record { outcome = refuses n; procedure = p; buffer = b }
 
 -- the receiver's answer to the frame: a refusal leaves the receiver as it was
-abbrev pub taken : Bool → Outcome Reception → ArqProcedure → List ℕ → Out
-taken begin (gives r) p b = beside (heard begin r p) b
-taken begin (refuses n) p b = refusal n p b
+abbrev pub byAnswer : Bool → Outcome Reception → ArqProcedure → List ℕ → Out
+byAnswer begin (gives r) p b = beside (heard begin r p) b
+byAnswer begin (refuses n) p b = refusal n p b
 
 -- a frame that was decoded is pushed
 abbrev pub pushes : ArqProcedure → List ℕ → ArqFrame → Out
-pushes p b f = let o = pushFrame (p .receiver) b f in taken (byKind (f .kind) true false) (o .outcome) (record { receiver = o .receiver; inactivity = p .inactivity }) (o .buffer)
+pushes p b f = let o = pushFrame (p .receiver) b f in byAnswer (byKind (f .kind) true false) (o .outcome) (record { receiver = o .receiver; inactivity = p .inactivity }) (o .buffer)
 
 -- decode's refusals come before
 abbrev pub decoded : ArqProcedure → List ℕ → Outcome ArqFrame → Out
@@ -146,16 +146,16 @@ decoded p b (gives f) = pushes p b f
 decoded p b (refuses n) = refusal n p b
 
 -- fewer than 4 tokens left 18; room under 255 octets 16; the clock gone back 17; then the clock is moved
-abbrev pub lets : ArqInactivity → ℕ → ℕ → Outcome ArqInactivity
-lets t b room = andThen (enough t) (λ u. refuse (ltb room 255) 16 (ticked u b))
+abbrev pub letThrough : ArqInactivity → ℕ → ℕ → Outcome ArqInactivity
+letThrough t b room = andThen (enough t) (λ u. refuse (ltb room 255) 16 (ticked u b))
 
 -- at the moved clock, if it comes to that
-abbrev pub goes : ArqProcedure → List ℕ → List ℕ → Outcome ArqInactivity → Out
-goes p xs b (gives t) = decoded (withTimer p t) b (decodeOf xs)
-goes p xs b (refuses n) = refusal n p b
+abbrev pub thenHears : ArqProcedure → List ℕ → List ℕ → Outcome ArqInactivity → Out
+thenHears p xs b (gives t) = decoded (withTimer p t) b (decodeOf xs)
+thenHears p xs b (refuses n) = refusal n p b
 
 unfoldable pub receiveOf : ArqProcedure → ℕ → List ℕ → List ℕ → Out
-receiveOf p block xs b = goes p xs b (lets (p .inactivity) block (length b))
+receiveOf p block xs b = thenHears p xs b (letThrough (p .inactivity) block (length b))
 
 -- ---- advance
 

@@ -25,7 +25,7 @@ ghost use Rattle.spach.specs.Refusal.{refuses};
 ghost use Rattle.arq.specs.Encode.{byKind};
 ghost use Rattle.arq.specs.Decode.{decodeOf};
 ghost use Rattle.inactivity.specs.Inactivity.{admission, refusalOf};
-ghost use Rattle.procedure.specs.Procedure.{says, told, received, begun, timed, polled, rests, accepted, heard, pushes, decoded, lets};
+ghost use Rattle.procedure.specs.Procedure.{says, told, received, begun, timed, polled, endsUnpolled, accepted, heard, pushes, decoded, letThrough};
 
 pub fn refuse(p: ArqProcedure, error: ProcedureError) -> Received
     ensures { λ r. ⌜ told r ≡ record { outcome = refuses (refusalOf error); state = p } ⌝ }
@@ -47,7 +47,7 @@ fn event(p: ArqProcedure, event: ReceiveEvent) -> Received
 
 // Fewer than 4 tokens left 18; room under 255 octets 16; the clock gone back 17; else the clock is moved.
 pub fn admit(timer: ArqInactivity, block: u64, room: usize) -> Admission
-    ensures { λ r. ⌜ admission r ≡ lets timer block room ⌝ }
+    ensures { λ r. ⌜ admission r ≡ letThrough timer block room ⌝ }
 {
     if token::fewer_than(4, timer.next_token) {
         return Admission::Refused(ProcedureError::Wire(SpachError::Tokens));
@@ -99,7 +99,7 @@ fn polled(request: Request, timer: ArqInactivity, complete: bool) -> Transmissio
 
 // A complete message whose frame was not polled ends the transaction.
 fn rest(p: ArqProcedure, request: Request, complete: bool) -> ArqProcedure
-    ensures { λ r. ⌜ r ≡ rests request complete p ⌝ }
+    ensures { λ r. ⌜ r ≡ endsUnpolled request complete p ⌝ }
 {
     if let Request::Status(_) = request {
         return p;

@@ -1,6 +1,6 @@
 -- `procedure::ArqProcedure::receive` meets its contract. Assumes nothing.
 use Rattle.procedure.proofs.Calls.{receive-stops, receive-goes}
-use Rattle.procedure.proofs.Kept.{kept-out, sound-receive, lets-gives}
+use Rattle.procedure.proofs.Kept.{kept-out, sound-receive, let-through-gives}
 use mathlib.Core.Path.{sym, ap, _∙_}
 use Rattle.inactivity.specs.Inactivity.{admission}
 use borrow.Author.Needs.{needs}
@@ -24,7 +24,7 @@ with-timer-requires c κs = search needs
 
 decode-requires : tie.Need-decode-requires
 decode-requires c κs =
-    let a = c .before .before .before .before .before .before .before .before .before .args in lets-gives (a .self .inactivity) (a .tdma-block) _ (sym (c .before .before .before .before .before .admit .ensures) ∙ ap admission (c .before .before .before .admission2 .given .1)) .0
+    let a = c .before .before .before .before .before .before .before .before .before .args in let-through-gives (a .self .inactivity) (a .tdma-block) _ (sym (c .before .before .before .before .before .admit .ensures) ∙ ap admission (c .before .before .before .admission2 .given .1)) .0
 
 returns : tie.Need-returns
 returns c =
