@@ -3,3 +3,4 @@ pub mod Fresh
 pub mod Frames
 pub mod Around
 pub mod Stored
+pub mod Framed

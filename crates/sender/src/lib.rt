@@ -1,5 +1,6 @@
 // The sender: messages cut into frames and sent until their receivers' statuses show them whole.
 pub mod echo;
+pub mod frame;
 pub mod queue;
 pub mod store;
 
