@@ -1,18 +1,19 @@
--- The search round the echoes: what stands at an offset from `next`, and a search that has come to an offset. Assumes nothing.
-use mathlib.Core.Path.{_≡_, refl, ap, _∙_}
+-- The search round the echoes: what stands at an offset from `next`, a search that has come to an offset, what an answer tells of the holds, and what a hold changes. Assumes nothing.
+use mathlib.Core.Path.{_≡_, refl, sym, ap, _∙_}
+use mathlib.Core.Logic.{_↔_}
 use mathlib.Core.Bool.{Bool, true, false, cond}
-use mathlib.Core.List.{List}
+use mathlib.Core.List.{List, [], _∷_}
 use mathlib.Core.Option.{none, some}
-use Prim.Native.Nat.{ℕ, _+_, _-_, _≤_, _<_, _%_}
+use Prim.Native.Nat.{ℕ, zero, suc, _+_, _-_, _≤_, _<_, _%_}
 use native.Mathlib.Numerals.{add-one}
 use native.Mathlib.Omega.{arith}
-use borrow.Author.Tests.{lt-leb, le-leb, lt-ltb, le-ltb, ltb-true, ltb-false}
+use borrow.Author.Tests.{leb-true, leb-false, lt-leb, le-leb, lt-ltb, le-ltb, ltb-true, ltb-false}
 use lib.Dec.{ltb}
 use lib.ListN.{length, take, drop, getD, length-append, length-drop, length-take, drop-of-length-le, List·getD-append}
-use lib.Seq.{drop-cons, getD-drop, getD-take, getD-append-add}
+use lib.Seq.{drop-cons, getD-drop, getD-take, getD-append-add, getD-set-same, getD-set-other}
 use Rattle.sender.specs.Lists.{position}
 use Rattle.sender.specs.State.{Echoes}
-use Rattle.sender.specs.Echo.{free, around, freeEcho}
+use Rattle.sender.specs.Echo.{free, around, freeEcho, hold}
 
 -- a search that has come to i: what it gives from the start
 module _ {A : Type 0} (p : A → Bool) (l : List A) (d : A) where
@@ -27,6 +28,25 @@ module _ {A : Type 0} (p : A → Bool) (l : List A) (d : A) where
 
   position-end : (i : ℕ) → length l ≤ i → positionFrom i ≡ i
   position-end i h = rw (drop-of-length-le l {i = i} (omega arith)) (omega arith)
+
+-- what a whole search tells of the elements
+module _ {A : Type 0} (p : A → Bool) (d : A) where
+  position-passes : (l : List A) → position p l < length l → p (getD l (position p l) d) ≡ true
+  position-passes [] h = absurd (omega arith)
+  position-passes (x ∷ l) h = at (p x) refl h (position-passes l)
+    where
+      at : (b : Bool) → p x ≡ b → cond b 0 (suc (position p l)) < suc (length l) → (position p l < length l → p (getD l (position p l) d) ≡ true) → p (getD (x ∷ l) (cond b 0 (suc (position p l))) d) ≡ true
+      at true q h f = q
+      at false q h f = f (omega arith)
+
+  none-passes : (l : List A) → length l ≤ position p l → (k : ℕ) → k < length l → p (getD l k d) ≡ false
+  none-passes [] h k lt = absurd (omega arith)
+  none-passes (x ∷ l) h k lt = at (p x) refl h (none-passes l) k lt
+    where
+      at : (b : Bool) → p x ≡ b → suc (length l) ≤ cond b 0 (suc (position p l)) → (length l ≤ position p l → (k : ℕ) → k < length l → p (getD l k d) ≡ false) → (k : ℕ) → k < suc (length l) → p (getD (x ∷ l) k d) ≡ false
+      at true q h f k lt = absurd (omega arith)
+      at false q h f zero lt = q
+      at false q h f (suc k) lt = f (omega arith) k (omega arith)
 
 module _ (u : List ℕ) (next : ℕ) (long : length u ≡ 128) (low : next < 128) where
   abbrev echoes : Echoes
@@ -88,3 +108,62 @@ free-low e now echo q = go (ltb (position (free now) (around e)) 128) q
     go : (b : Bool) → some echo ≡ cond b (some ((e .«next_echo» + position (free now) (around e)) % 128)) none → echo < 128
     go true q = let r : echo ≡ (e .«next_echo» + position (free now) (around e)) % 128 = cc in omega arith
     go false q = let z : _≡_ {A = ℕ} 0 1 = cc in absurd (omega arith)
+
+some-none : {n : ℕ} → some n ≡ none → ⊥
+some-none q = let z : _≡_ {A = ℕ} 0 1 = cc in omega arith
+
+module _ (e : Echoes) (long : length (e .«echo_until_ms») ≡ 128) where
+  module _ (low : e .«next_echo» < 128) (now : ℕ) where
+    abbrev offset : ℕ
+    offset = position (free now) (around e)
+
+    found : offset < 128 → getD (e .«echo_until_ms») ((e .«next_echo» + offset) % 128) 0 ≤ now
+    found h =
+        let len = around-long (e .«echo_until_ms») (e .«next_echo») long low in
+        let at = around-at (e .«echo_until_ms») (e .«next_echo») long low offset h in
+        leb-true _ _ (ap (free now) (sym at) ∙ position-passes (free now) 0 (around e) (omega arith))
+
+    in-vain : 128 ≤ offset → (k : ℕ) → k < 128 → now < getD (e .«echo_until_ms») k 0
+    in-vain h k lt =
+        let len = around-long (e .«echo_until_ms») (e .«next_echo») long low in
+        let j : ((k + 128) - e .«next_echo») % 128 < 128 = omega arith in
+        let back : (e .«next_echo» + ((k + 128) - e .«next_echo») % 128) % 128 ≡ k = omega arith in
+        let at = around-at (e .«echo_until_ms») (e .«next_echo») long low (((k + 128) - e .«next_echo») % 128) j in
+        let f = none-passes (free now) 0 (around e) (omega arith) (((k + 128) - e .«next_echo») % 128) (omega arith) in
+        leb-false _ _ (ap (free now) (sym (at ∙ ap (λ (i : ℕ). getD (e .«echo_until_ms») i 0) back)) ∙ f)
+
+    -- an echo is taken only if it is held until now or earlier
+    pub free-now : {echo : ℕ} → freeEcho e now ≡ some echo → (echo < 128) × (getD (e .«echo_until_ms») echo 0 ≤ now)
+    unfolding freeEcho
+    free-now {echo} q = go (ltb offset 128) refl q
+      where
+        go : (b : Bool) → ltb offset 128 ≡ b → cond b (some ((e .«next_echo» + offset) % 128)) none ≡ some echo → (echo < 128) × (getD (e .«echo_until_ms») echo 0 ≤ now)
+        go true t q =
+            let r : (e .«next_echo» + offset) % 128 ≡ echo = cc in
+            let f = found (ltb-true _ _ t) in
+            (omega arith, rw r at f)
+        go false t q = absurd (some-none (sym q))
+
+    -- none is free exactly if every echo is held until later
+    pub none-free : (freeEcho e now ≡ none) ↔ ((k : ℕ) → k < 128 → now < getD (e .«echo_until_ms») k 0)
+    unfolding freeEcho
+    none-free = ((λ q. go (ltb offset 128) refl q), (λ f. back f (ltb offset 128) refl))
+      where
+        go : (b : Bool) → ltb offset 128 ≡ b → cond b (some ((e .«next_echo» + offset) % 128)) none ≡ none → (k : ℕ) → k < 128 → now < getD (e .«echo_until_ms») k 0
+        go true t q = absurd (some-none q)
+        go false t q = in-vain (ltb-false _ _ t)
+
+        back : ((k : ℕ) → k < 128 → now < getD (e .«echo_until_ms») k 0) → (b : Bool) → ltb offset 128 ≡ b → cond b (some ((e .«next_echo» + offset) % 128)) none ≡ none
+        back f true t =
+            let held = f ((e .«next_echo» + offset) % 128) (omega arith) in
+            let released = found (ltb-true _ _ t) in
+            absurd (omega arith)
+        back f false t = refl
+
+  -- an echo that is held is held until then
+  pub held-after : (echo until : ℕ) → echo < 128 → getD (hold e echo until .«echo_until_ms») echo 0 ≡ until
+  held-after echo until h = getD-set-same (e .«echo_until_ms») echo until 0 (omega arith)
+
+-- every other echo's hold stays
+pub held-other : (e : Echoes) (echo until k : ℕ) → (k ≡ echo → ⊥) → getD (hold e echo until .«echo_until_ms») k 0 ≡ getD (e .«echo_until_ms») k 0
+held-other e echo until k h = getD-set-other (e .«echo_until_ms») echo k until 0 h
