@@ -1,6 +1,7 @@
-pub mod Samples
-pub mod Fresh
-pub mod Frames
 pub mod Around
-pub mod Stored
 pub mod Framed
+pub mod Frames
+pub mod Fresh
+pub mod Samples
+pub mod Settled
+pub mod Stored

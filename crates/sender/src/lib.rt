@@ -1,7 +1,9 @@
 // The sender: messages cut into frames and sent until their receivers' statuses show them whole.
+pub mod advance;
 pub mod echo;
 pub mod frame;
 pub mod queue;
+pub mod settling;
 pub mod store;
 
 use rach::MobileIdentity;
