@@ -100,15 +100,6 @@ module _ (u : List ℕ) (next : ℕ) (long : length u ≡ 128) (low : next < 128
         let gone : position (free now) (around echoes) ≡ k = e ∙ position-end (free now) (around echoes) 0 k (omega arith) in
         rw (gone, le-ltb k 128 h)
 
--- a free echo is one of the 128
-pub free-low : (e : Echoes) (now echo : ℕ) → some echo ≡ freeEcho e now → echo < 128
-unfolding freeEcho
-free-low e now echo q = go (ltb (position (free now) (around e)) 128) q
-  where
-    go : (b : Bool) → some echo ≡ cond b (some ((e .«next_echo» + position (free now) (around e)) % 128)) none → echo < 128
-    go true q = let r : echo ≡ (e .«next_echo» + position (free now) (around e)) % 128 = cc in omega arith
-    go false q = let z : _≡_ {A = ℕ} 0 1 = cc in absurd (omega arith)
-
 some-none : {n : ℕ} → some n ≡ none → ⊥
 some-none q = let z : _≡_ {A = ℕ} 0 1 = cc in omega arith
 
