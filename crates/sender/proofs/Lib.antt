@@ -1,7 +1,9 @@
-pub mod Around
-pub mod Framed
-pub mod Frames
-pub mod Fresh
-pub mod Samples
-pub mod Settled
-pub mod Stored
+pub mod Admitted
+pub mod Asking
+pub mod Chosen
+pub mod Granted
+pub mod Handed
+pub mod Oldest
+pub mod Shifts
+pub mod Slots
+pub mod Turns

@@ -1,41 +1,33 @@
--- 01's numbers for the answers of the sender's calls, and what a call leaves, read as the definitions speak of it.
--- Assumes nothing.
+-- The answers of the sender's calls, and what a call leaves, read as the definitions speak of it. Assumes nothing.
 use mathlib.Core.Bool.{Bool}
-use mathlib.Core.Option.{Option}
+use mathlib.Core.Option.{Option, none}
 use Prim.Native.Nat.{ℕ}
-use Rattle.spach.specs.Refusal.{Outcome, gives, refuses, numberOf, andThen, After}
-use Rattle.sender.specs.declared.TransferToken.{TransferToken}
-use Rattle.sender.specs.declared.Error.{Error}
-use Rattle.sender.specs.declared.Error.the-variants.{Limits, Capacity, EchoExhausted, Clock, Deadline, Stale, Wire}
-use Rattle.sender.specs.declared.PreparedFrame.{PreparedFrame}
+use Rattle.spach.specs.Refusal.{Outcome, gives, refuses, answered, After}
+use Rattle.transfer.specs.declared.TransferToken.{TransferToken}
+use Rattle.transfer.specs.declared.PreparedFrame.{PreparedFrame}
 use Rattle.sender.specs.declared.Verdict.{Verdict}
 use Rattle.sender.specs.declared.Verdict.the-variants as verdicts
 use Rattle.sender.specs.declared.Moved.{Moved}
 use Rattle.sender.specs.declared.EnqueueAnswer.{EnqueueAnswer}
 use Rattle.sender.specs.declared.EnqueueAnswer.the-variants as enqueues
 use Rattle.sender.specs.declared.Enqueued.{Enqueued}
+use Rattle.sender.specs.declared.GrantAnswer.{GrantAnswer}
+use Rattle.sender.specs.declared.GrantAnswer.the-variants as grants
 use Rattle.sender.specs.declared.Prepared.{Prepared}
 use Rattle.sender.specs.declared.FoundAnswer.{FoundAnswer}
 use Rattle.sender.specs.declared.FoundAnswer.the-variants as founds
 use Rattle.sender.specs.declared.Sought.{Sought}
-use Rattle.sender.specs.declared.Confirmation.{Confirmation}
+use Rattle.transfer.specs.declared.Confirmation.{Confirmation}
 use Rattle.sender.specs.declared.ConfirmationAnswer.{ConfirmationAnswer}
 use Rattle.sender.specs.declared.ConfirmationAnswer.the-variants as confirmations
 use Rattle.sender.specs.declared.Confirmed.{Confirmed}
 use Rattle.sender.specs.declared.Cancelled.{Cancelled}
-use Rattle.sender.specs.declared.NextEvent.{NextEvent}
+use Rattle.transfer.specs.declared.NextEvent.{NextEvent}
 use Rattle.sender.specs.declared.Popped.{Popped}
-use Rattle.sender.specs.State.{View, Lent, Out, viewOf, selectionOf, says}
-
--- the sender's numbers; a Wire error keeps its own
-abbrev pub refusalOf : Error → ℕ
-refusalOf Limits = 19
-refusalOf Capacity = 20
-refusalOf EchoExhausted = 21
-refusalOf Clock = 22
-refusalOf Deadline = 23
-refusalOf Stale = 24
-refusalOf (Wire e) = numberOf e
+use Rattle.transfer.specs.State.{View, Lent, Out, says}
+use Rattle.transfer.specs.Enqueue.{Grant}
+use Rattle.transfer.specs.Numbers.{refusalOf}
+use Rattle.sender.specs.Arrays.{viewOf, selectionOf}
 
 -- ---- answers
 
@@ -47,8 +39,9 @@ abbrev pub enqueueAnswer : EnqueueAnswer → Outcome TransferToken
 enqueueAnswer (enqueues.Transfer t) = gives t
 enqueueAnswer (enqueues.Refused e) = refuses (refusalOf e)
 
-abbrev pub preparedAnswer : Prepared → Outcome (Option PreparedFrame)
-preparedAnswer r = andThen (verdictOf (r .verdict)) (λ u. gives (selectionOf (r .selection)))
+abbrev pub grantAnswer : GrantAnswer → Outcome Grant
+grantAnswer (grants.Granted frames echo) = gives (record { frames = frames; echo = echo })
+grantAnswer (grants.Refused e) = refuses (refusalOf e)
 
 abbrev pub foundAnswer : FoundAnswer → Outcome Bool
 foundAnswer (founds.Found b) = gives b
@@ -67,14 +60,23 @@ made r = (verdictOf (r .verdict), viewOf (r .sender))
 abbrev pub moved : Moved → After Unit View
 moved r = record { outcome = verdictOf (r .verdict); state = viewOf (r .sender) }
 
+-- what `submitted` and `enqueue` leave, apart from the lent memory
+abbrev pub left : {A : Type 0} → Out A → After A View
+left o = record { outcome = o .outcome; state = o .sender }
+
 abbrev pub submitted : Moved → Lent → Out Unit
 submitted r m = record { outcome = verdictOf (r .verdict); sender = viewOf (r .sender); lent = m }
 
 abbrev pub enqueued : Enqueued → Lent → Out TransferToken
 enqueued r m = record { outcome = enqueueAnswer (r .answer); sender = viewOf (r .sender); lent = m }
 
-abbrev pub prepared : Prepared → After (Option PreparedFrame) View
-prepared r = record { outcome = preparedAnswer r; state = viewOf (r .sender) }
+-- `prepare` and `prepare_prioritized`: beside a refusal there is no frame
+abbrev pub prepared : Prepared → (Outcome Unit × Option PreparedFrame) × View
+prepared r = ((verdictOf (r .verdict), selectionOf (r .selection)), viewOf (r .sender))
+
+-- what they leave, so told
+abbrev pub told : After (Option PreparedFrame) View → (Outcome Unit × Option PreparedFrame) × View
+told a = (answered none (a .outcome), a .state)
 
 -- `interrupt` and `status`
 abbrev pub sought : Sought → After Bool View

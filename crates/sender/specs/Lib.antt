@@ -1,15 +1,3 @@
-pub mod Lists
-pub mod Queue
-pub mod State
-pub mod Echo
-pub mod Transfer
-pub mod Advance
-pub mod Enqueue
-pub mod Prepare
-pub mod Submitted
-pub mod Status
-pub mod Cancel
-pub mod Refresh
-pub mod Queries
+pub mod Arrays
 pub mod Answers
-pub mod Invariant
+pub mod Asked

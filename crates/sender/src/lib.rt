@@ -1,120 +1,68 @@
-// The sender: messages cut into frames and sent until their receivers' statuses show them whole.
-pub mod advance;
-pub mod echo;
-pub mod frame;
-pub mod queue;
-pub mod settling;
-pub mod store;
+// The sender: up to 128 transfers, in the order in which they are served, and the events of those that ended. A call that can
+// refuse is lent the messages' octets (`store`) and the frames' submissions (`words`).
+pub mod cancel;
+pub mod clock;
+pub mod enqueue;
+pub mod fresh;
+pub mod prepare;
+pub mod refresh;
+pub mod status;
+pub mod submit;
+pub mod table;
+pub mod walk;
 
+use cancel::all_cancelled;
+use cancel::cancel_first;
+use cancel::popped as without_first;
+use clock::admit;
+use clock::short;
+use clock::tick;
+use enqueue::accept;
+use enqueue::grant;
+use fresh::fresh;
+use prepare::choose;
+use prepare::dropped;
+use prepare::prioritize;
 use rach::MobileIdentity;
-use spach::Channel;
+use receiver::ArqStatus;
+use refresh::queue_waiting;
+use refresh::serve_oldest;
 use spach::SpachError;
-
-// Tells the transfers of one sender apart, whatever echo they hold: the owner of each is a number of its counter.
-pub struct TransferToken(pub u64);
-
-// Tells the echoes apart that a transfer held one after the other.
-pub struct Generation(pub u64);
-
-// Tells the frames apart that were prepared.
-pub struct Submission(pub u64);
-
-pub struct FrameToken {
-    pub generation: Generation,
-    pub submission: Submission,
-    pub frame: usize,
-}
-
-// Why a call of the sender is refused.
-pub enum Error {
-    Limits,
-    Capacity,
-    EchoExhausted,
-    Clock,
-    Deadline,
-    Stale,
-    Wire(SpachError),
-}
-
-// How a transfer ended, with its completion number.
-pub enum Event {
-    Complete(u64),
-    Expired(u64),
-    Cancelled(u64),
-    Failed { completion: u64, error: Error },
-}
-
-// What is to be sent; its message stands beside it.
-pub struct Request {
-    pub identity: MobileIdentity,
-    pub channel: Channel,
-    pub completion: u64,
-    pub deadline_ms: u64,
-}
-
-// What a transfer is from first to last: its request, the length of its message, how many frames that needs, its place n in
-// the lent store, and its token.
-pub struct Parcel {
-    pub identity: MobileIdentity,
-    pub completion: u64,
-    pub deadline_ms: u64,
-    pub owner: TransferToken,
-    pub channel: Channel,
-    pub octets: u8,
-    pub frames: u8,
-    pub n: u8,
-}
-
-// Where its frames stand, each set a number: bit k is frame k's, the Begin is frame 0 and Continue k the frame k + 1.
-// Observed are the Continues that a status showed.
-pub struct Sets {
-    pub queue: u32,
-    pub in_flight: u32,
-    pub transmitted: u32,
-    pub observed: u32,
-    pub received_status: bool,
-}
-
-// A block, once there is one.
-pub enum Since {
-    Never,
-    Block(u64),
-}
-
-pub struct Blocks {
-    pub last_progress: Since,
-    pub last_frame: Since,
-    pub waiting_since: Since,
-}
-
-pub struct Transfer {
-    pub parcel: Parcel,
-    pub generation: Generation,
-    pub sets: Sets,
-    pub echo: u8,
-    pub blocks: Blocks,
-}
-
-// What becomes of a transfer in `advance`.
-pub enum Fate {
-    Ends(Event),
-    Restarts,
-    Stays(Transfer),
-}
-
-// An echo that is not held any more, if there is one.
-pub enum FreeEcho {
-    Nothing,
-    Echo(u8),
-}
-
-// A frame ready to be sent, and the token under which it is reported.
-pub struct PreparedFrame {
-    pub identity: MobileIdentity,
-    pub octets: [u8; 14],
-    pub token: FrameToken,
-    pub partial_echo: u8,
-}
+use status::shows;
+use submit::confirm;
+use submit::submit;
+use table::cancel_at;
+use table::find;
+use transfer::Addressee;
+use transfer::CompletionAnswer;
+use transfer::Confirmation;
+use transfer::Error;
+use transfer::Event;
+use transfer::FrameToken;
+use transfer::FreeEcho;
+use transfer::Key;
+use transfer::NextEvent;
+use transfer::PreparedFrame;
+use transfer::Request;
+use transfer::Transfer;
+use transfer::TransferToken;
+use transfer::echo::free_echo;
+use transfer::effects::went_out;
+use transfer::queue::full;
+use walk::walk;
+ghost use mathlib.Core.Path.{_≡_};
+ghost use Rattle.spach.specs.Refusal.{gives, answered};
+ghost use Rattle.transfer.specs.State.{blankView, newOf};
+ghost use Rattle.transfer.specs.Advance.{advanceOf};
+ghost use Rattle.transfer.specs.Enqueue.{enqueueOf};
+ghost use Rattle.transfer.specs.Prepare.{prepareOf, hasEchoOf, interruptOf, preparePrioritizedOf};
+ghost use Rattle.transfer.specs.Submitted.{submittedOf, submittedMessageOf, transmittedOf};
+ghost use Rattle.transfer.specs.Status.{statusOf};
+ghost use Rattle.transfer.specs.Cancel.{cancelOf, cancelTransactionOf, cancelAllOf};
+ghost use Rattle.transfer.specs.Refresh.{refreshWaitingOf};
+ghost use Rattle.transfer.specs.Queries.{canEnqueueOf, identityForEchoOf, radioActiveOf, readyOf, containsOf, popEventOf, pendingOf};
+ghost use Rattle.sender.specs.Answers.{verdictOf, made, moved, enqueued, prepared, told, sought, submitted, confirmed, cancelled, popped};
+ghost use Rattle.sender.specs.Arrays.{viewOf, lent, Whole};
 
 // A prepared frame, if there is one.
 pub struct Selection {
@@ -161,6 +109,12 @@ pub enum EnqueueAnswer {
     Refused(Error),
 }
 
+// What a request is given, or why it is refused.
+pub enum GrantAnswer {
+    Granted { frames: u8, echo: u8 },
+    Refused(Error),
+}
+
 pub struct Enqueued {
     pub sender: Sender,
     pub answer: EnqueueAnswer,
@@ -184,12 +138,6 @@ pub struct Sought {
     pub answer: FoundAnswer,
 }
 
-// Whether a frame was in flight and, if so, whether all frames are transmitted with it.
-pub enum Confirmation {
-    NotFound,
-    Found { completed: bool },
-}
-
 pub enum ConfirmationAnswer {
     Confirmation(Confirmation),
     Refused(Error),
@@ -206,22 +154,475 @@ pub struct Cancelled {
     pub found: bool,
 }
 
-pub enum CompletionAnswer {
-    Nothing,
-    Completion(u64),
-}
-
-pub enum Addressee {
-    Nothing,
-    Identity(MobileIdentity),
-}
-
-pub enum NextEvent {
-    Nothing,
-    Event(Event),
-}
-
 pub struct Popped {
     pub sender: Sender,
     pub next: NextEvent,
+}
+
+impl Sender {
+    // In the Rust `try_new` and `after_restart`: nobody starts without saying from which block on echoes may be used.
+    pub fn try_new(
+        capacity: usize,
+        echo_guard_ms: u64,
+        startup_until_block: u64,
+        first: u64,
+    ) -> Moved
+        ensures { λ r. ⌜ made r ≡ answered blankView (newOf capacity «echo_guard_ms» «startup_until_block» first) ⌝ }
+        ensures { λ r. ⌜ (verdictOf (r .verdict) ≡ gives tt → Whole (r .sender)) ⌝ }
+    {
+        if capacity == 0 {
+            return Moved {
+                sender: fresh(0, 0, 0, 0),
+                verdict: Verdict::Refused(Error::Limits),
+            };
+        }
+        if 128 < capacity {
+            return Moved {
+                sender: fresh(0, 0, 0, 0),
+                verdict: Verdict::Refused(Error::Limits),
+            };
+        }
+        Moved {
+            sender: fresh(capacity, echo_guard_ms, startup_until_block, first),
+            verdict: Verdict::Accepted,
+        }
+    }
+
+    pub fn can_enqueue(self, block: u64, now_ms: u64) -> bool
+        requires { ⌜ Whole self ⌝ }
+        ensures { λ r. ⌜ r ≡ canEnqueueOf (viewOf self) block «now_ms» ⌝ }
+    {
+        if block < self.startup_until_block {
+            return false;
+        }
+        if self.capacity <= self.pending {
+            return false;
+        }
+        if self.capacity <= self.waiting {
+            return false;
+        }
+        match free_echo(&self.echo_until_ms, self.next_echo, now_ms) {
+            FreeEcho::Nothing => false,
+            FreeEcho::Echo(_) => true,
+        }
+    }
+
+    pub fn enqueue(
+        mut self,
+        request: Request,
+        message: &[u8],
+        block: u64,
+        now_ms: u64,
+        store: &mut [u8],
+        words: &[u64],
+    ) -> Enqueued
+        requires { ⌜ Whole self ⌝ }
+        ensures { λ r. ⌜ enqueued r (lent (now (store .exit)) (now (words .entry))) ≡ enqueueOf (viewOf self) (lent (now (store .entry)) (now (words .entry))) request (now (message .entry)) block «now_ms» ⌝ }
+        ensures { λ r. ⌜ Whole (r .sender) ⌝ }
+    {
+        let lacking = short(store.len(), words.len());
+        let verdict = admit(
+            lacking,
+            self.next_token,
+            self.last_block,
+            self.last_ms,
+            block,
+            now_ms,
+        );
+        if let Verdict::Refused(error) = verdict {
+            return Enqueued {
+                sender: self,
+                answer: EnqueueAnswer::Refused(error),
+            };
+        }
+        self.last_block = block;
+        self.last_ms = now_ms;
+        match grant(self, request, message) {
+            GrantAnswer::Refused(error) => Enqueued {
+                sender: self,
+                answer: EnqueueAnswer::Refused(error),
+            },
+            GrantAnswer::Granted { frames, echo } => accept(
+                self,
+                request,
+                message,
+                frames,
+                echo,
+                store,
+            ),
+        }
+    }
+
+    pub fn advance(mut self, block: u64, now_ms: u64, store: &[u8], words: &[u64]) -> Moved
+        requires { ⌜ Whole self ⌝ }
+        ensures { λ r. ⌜ moved r ≡ advanceOf (viewOf self) (lent (now (store .entry)) (now (words .entry))) block «now_ms» ⌝ }
+        ensures { λ r. ⌜ Whole (r .sender) ⌝ }
+    {
+        let lacking = short(store.len(), words.len());
+        let verdict = admit(
+            lacking,
+            self.next_token,
+            self.last_block,
+            self.last_ms,
+            block,
+            now_ms,
+        );
+        if let Verdict::Refused(error) = verdict {
+            return Moved {
+                sender: self,
+                verdict: Verdict::Refused(error),
+            };
+        }
+        self.last_block = block;
+        self.last_ms = now_ms;
+        let s = walk(self, 128);
+        Moved {
+            sender: s,
+            verdict: Verdict::Accepted,
+        }
+    }
+
+    pub fn prepare(mut self, block: u64, now_ms: u64, store: &[u8], words: &[u64]) -> Prepared
+        requires { ⌜ Whole self ⌝ }
+        ensures { λ r. ⌜ prepared r ≡ told (prepareOf (viewOf self) (lent (now (store .entry)) (now (words .entry))) block «now_ms») ⌝ }
+        ensures { λ r. ⌜ Whole (r .sender) ⌝ }
+    {
+        let lacking = short(store.len(), words.len());
+        let verdict = admit(
+            lacking,
+            self.next_token,
+            self.last_block,
+            self.last_ms,
+            block,
+            now_ms,
+        );
+        if let Verdict::Refused(error) = verdict {
+            let selected = self.selected;
+            let nothing = dropped(selected);
+            return Prepared {
+                sender: self,
+                verdict: Verdict::Refused(error),
+                selection: nothing,
+            };
+        }
+        self.last_block = block;
+        self.last_ms = now_ms;
+        choose(walk(self, 128), store)
+    }
+
+    pub fn has_echo(self, echo: u8) -> bool
+        requires { ⌜ Whole self ⌝ }
+        ensures { λ r. ⌜ r ≡ hasEchoOf (viewOf self) echo ⌝ }
+    {
+        find(self, Key::Echo(echo)).held
+    }
+
+    // Whether a transfer has this echo; its restart is then asked for.
+    pub fn interrupt(
+        mut self,
+        echo: u8,
+        block: u64,
+        now_ms: u64,
+        store: &[u8],
+        words: &[u64],
+    ) -> Sought
+        requires { ⌜ Whole self ⌝ }
+        ensures { λ r. ⌜ sought r ≡ interruptOf (viewOf self) (lent (now (store .entry)) (now (words .entry))) echo block «now_ms» ⌝ }
+        ensures { λ r. ⌜ Whole (r .sender) ⌝ }
+    {
+        let lacking = short(store.len(), words.len());
+        let verdict = admit(
+            lacking,
+            self.next_token,
+            self.last_block,
+            self.last_ms,
+            block,
+            now_ms,
+        );
+        if let Verdict::Refused(error) = verdict {
+            return Sought {
+                sender: self,
+                answer: FoundAnswer::Refused(error),
+            };
+        }
+        self.last_block = block;
+        self.last_ms = now_ms;
+        let found = find(self, Key::Echo(echo));
+        if !found.held {
+            return Sought {
+                sender: self,
+                answer: FoundAnswer::Found(false),
+            };
+        }
+        let s = walk(self, found.place);
+        Sought {
+            sender: s,
+            answer: FoundAnswer::Found(true),
+        }
+    }
+
+    pub fn prepare_prioritized(
+        mut self,
+        echo: u8,
+        block: u64,
+        now_ms: u64,
+        store: &[u8],
+        words: &[u64],
+    ) -> Prepared
+        requires { ⌜ Whole self ⌝ }
+        ensures { λ r. ⌜ prepared r ≡ told (preparePrioritizedOf (viewOf self) (lent (now (store .entry)) (now (words .entry))) echo block «now_ms») ⌝ }
+        ensures { λ r. ⌜ Whole (r .sender) ⌝ }
+    {
+        let lacking = short(store.len(), words.len());
+        let verdict = admit(
+            lacking,
+            self.next_token,
+            self.last_block,
+            self.last_ms,
+            block,
+            now_ms,
+        );
+        if let Verdict::Refused(error) = verdict {
+            let selected = self.selected;
+            let nothing = dropped(selected);
+            return Prepared {
+                sender: self,
+                verdict: Verdict::Refused(error),
+                selection: nothing,
+            };
+        }
+        self.last_block = block;
+        self.last_ms = now_ms;
+        prioritize(walk(self, 128), echo, store)
+    }
+
+    // It takes no token, so it does not ask for 18.
+    pub fn submitted(
+        mut self,
+        token: FrameToken,
+        block: u64,
+        now_ms: u64,
+        store: &[u8],
+        words: &mut [u64],
+    ) -> Moved
+        requires { ⌜ Whole self ⌝ }
+        ensures { λ r. ⌜ submitted r (lent (now (store .entry)) (now (words .exit))) ≡ submittedOf (viewOf self) (lent (now (store .entry)) (now (words .entry))) token block «now_ms» ⌝ }
+        ensures { λ r. ⌜ Whole (r .sender) ⌝ }
+    {
+        if short(store.len(), words.len()) {
+            return Moved {
+                sender: self,
+                verdict: Verdict::Refused(Error::Wire(SpachError::Room)),
+            };
+        }
+        if let Verdict::Refused(error) = tick(self.last_block, self.last_ms, block, now_ms) {
+            return Moved {
+                sender: self,
+                verdict: Verdict::Refused(error),
+            };
+        }
+        self.last_block = block;
+        self.last_ms = now_ms;
+        submit(self, token, words)
+    }
+
+    // By the token's generation alone.
+    pub fn submitted_message(self, token: FrameToken) -> CompletionAnswer
+        requires { ⌜ Whole self ⌝ }
+        ensures { λ r. ⌜ r ≡ submittedMessageOf (viewOf self) token ⌝ }
+    {
+        let generation = token.generation;
+        let found = find(self, Key::Generation(generation));
+        let x = found.transfer;
+        let p = x.parcel;
+        let sets = x.sets;
+        if !found.held {
+            return CompletionAnswer::Nothing;
+        }
+        if !full(p.frames, went_out(sets)) {
+            return CompletionAnswer::Nothing;
+        }
+        CompletionAnswer::Completion(p.completion)
+    }
+
+    // Whether the frame was in flight, and whether the Rust calls `completed`.
+    pub fn transmitted(
+        mut self,
+        token: FrameToken,
+        block: u64,
+        now_ms: u64,
+        store: &[u8],
+        words: &[u64],
+    ) -> Confirmed
+        requires { ⌜ Whole self ⌝ }
+        ensures { λ r. ⌜ confirmed r ≡ transmittedOf (viewOf self) (lent (now (store .entry)) (now (words .entry))) token block «now_ms» ⌝ }
+        ensures { λ r. ⌜ Whole (r .sender) ⌝ }
+    {
+        let lacking = short(store.len(), words.len());
+        let verdict = admit(
+            lacking,
+            self.next_token,
+            self.last_block,
+            self.last_ms,
+            block,
+            now_ms,
+        );
+        if let Verdict::Refused(error) = verdict {
+            return Confirmed {
+                sender: self,
+                answer: ConfirmationAnswer::Refused(error),
+            };
+        }
+        self.last_block = block;
+        self.last_ms = now_ms;
+        confirm(self, token, words)
+    }
+
+    pub fn status(
+        mut self,
+        status: ArqStatus,
+        block: u64,
+        now_ms: u64,
+        store: &[u8],
+        words: &[u64],
+    ) -> Sought
+        requires { ⌜ Whole self ⌝ }
+        ensures { λ r. ⌜ sought r ≡ statusOf (viewOf self) (lent (now (store .entry)) (now (words .entry))) status block «now_ms» ⌝ }
+        ensures { λ r. ⌜ Whole (r .sender) ⌝ }
+    {
+        let lacking = short(store.len(), words.len());
+        let verdict = admit(
+            lacking,
+            self.next_token,
+            self.last_block,
+            self.last_ms,
+            block,
+            now_ms,
+        );
+        if let Verdict::Refused(error) = verdict {
+            return Sought {
+                sender: self,
+                answer: FoundAnswer::Refused(error),
+            };
+        }
+        self.last_block = block;
+        self.last_ms = now_ms;
+        shows(walk(self, 128), status)
+    }
+
+    pub fn cancel(self, identity: MobileIdentity) -> Cancelled
+        requires { ⌜ Whole self ⌝ }
+        ensures { λ r. ⌜ cancelled r ≡ cancelOf (viewOf self) identity ⌝ }
+        ensures { λ r. ⌜ Whole (r .sender) ⌝ }
+    {
+        cancel_first(self, Key::Identity(identity))
+    }
+
+    pub fn cancel_transaction(self, token: TransferToken) -> Cancelled
+        requires { ⌜ Whole self ⌝ }
+        ensures { λ r. ⌜ cancelled r ≡ cancelTransactionOf (viewOf self) token ⌝ }
+        ensures { λ r. ⌜ Whole (r .sender) ⌝ }
+    {
+        cancel_first(self, Key::Owner(token))
+    }
+
+    pub fn cancel_all(self) -> Sender
+        requires { ⌜ Whole self ⌝ }
+        ensures { λ r. ⌜ viewOf r ≡ cancelAllOf (viewOf self) ⌝ }
+        ensures { λ r. ⌜ Whole r ⌝ }
+    {
+        all_cancelled(self)
+    }
+
+    pub fn refresh_waiting(mut self, block: u64, now_ms: u64, store: &[u8], words: &[u64]) -> Moved
+        requires { ⌜ Whole self ⌝ }
+        ensures { λ r. ⌜ moved r ≡ refreshWaitingOf (viewOf self) (lent (now (store .entry)) (now (words .entry))) block «now_ms» ⌝ }
+        ensures { λ r. ⌜ Whole (r .sender) ⌝ }
+    {
+        let lacking = short(store.len(), words.len());
+        let verdict = admit(
+            lacking,
+            self.next_token,
+            self.last_block,
+            self.last_ms,
+            block,
+            now_ms,
+        );
+        if let Verdict::Refused(error) = verdict {
+            return Moved {
+                sender: self,
+                verdict: Verdict::Refused(error),
+            };
+        }
+        self.last_block = block;
+        self.last_ms = now_ms;
+        let s = serve_oldest(queue_waiting(walk(self, 128)));
+        Moved {
+            sender: s,
+            verdict: Verdict::Accepted,
+        }
+    }
+
+    // Of the first transfer of this echo.
+    pub fn identity_for_echo(self, echo: u8) -> Addressee
+        requires { ⌜ Whole self ⌝ }
+        ensures { λ r. ⌜ r ≡ identityForEchoOf (viewOf self) echo ⌝ }
+    {
+        let found = find(self, Key::Echo(echo));
+        let x = found.transfer;
+        let p = x.parcel;
+        let identity = p.identity;
+        if !found.held {
+            return Addressee::Nothing;
+        }
+        Addressee::Identity(identity)
+    }
+
+    pub fn radio_active(self) -> bool
+        requires { ⌜ Whole self ⌝ }
+        ensures { λ r. ⌜ r ≡ radioActiveOf (viewOf self) ⌝ }
+    {
+        find(self, Key::Progress).held
+    }
+
+    pub fn ready(self) -> bool
+        requires { ⌜ Whole self ⌝ }
+        ensures { λ r. ⌜ r ≡ readyOf (viewOf self) ⌝ }
+    {
+        find(self, Key::Ready).held
+    }
+
+    pub fn contains(self, identity: MobileIdentity) -> bool
+        requires { ⌜ Whole self ⌝ }
+        ensures { λ r. ⌜ r ≡ containsOf (viewOf self) identity ⌝ }
+    {
+        find(self, Key::Identity(identity)).held
+    }
+
+    pub fn pop_event(self) -> Popped
+        requires { ⌜ Whole self ⌝ }
+        ensures { λ r. ⌜ popped r ≡ popEventOf (viewOf self) ⌝ }
+        ensures { λ r. ⌜ Whole (r .sender) ⌝ }
+    {
+        if self.waiting == 0 {
+            return Popped {
+                sender: self,
+                next: NextEvent::Nothing,
+            };
+        }
+        let slot = self.events[0];
+        let event = slot.event;
+        let s = without_first(self);
+        Popped {
+            sender: s,
+            next: NextEvent::Event(event),
+        }
+    }
+
+    pub fn pending(self) -> usize
+        requires { ⌜ Whole self ⌝ }
+        ensures { λ r. ⌜ r ≡ pendingOf (viewOf self) ⌝ }
+    {
+        self.pending
+    }
 }

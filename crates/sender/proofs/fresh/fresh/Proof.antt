@@ -1,0 +1,27 @@
+-- `sender::fresh::fresh` meets its contract. Assumes nothing.
+use mathlib.Core.Path.{ap}
+use mathlib.Core.Option.{Option}
+use native.Mathlib.Omega.{arith}
+use borrow.Author.Needs.{needs}
+use Rattle.transfer.specs.declared.PreparedFrame.{PreparedFrame}
+use Rattle.transfer.specs.State.{fresh, withSelected}
+use Rattle.sender.specs.Arrays.{viewOf}
+use Rattle.sender.proofs.fresh.fresh.Statement.{statement}
+use Rattle.sender.proofs.fresh.fresh.Tie as tie
+
+nowhere-requires : tie.Need-nowhere-requires
+nowhere-requires c κs = search needs
+
+unselected-requires : tie.Need-unselected-requires
+unselected-requires c κs = search needs
+
+returns : tie.Need-returns
+unfolding viewOf
+returns c =
+    let a = c .before .before .before .args in (
+      record { pending = omega arith; waiting = omega arith },
+      ap (λ (o : Option PreparedFrame). withSelected (fresh (a .capacity) (a .echo-guard-ms) (a .startup-until-block) (a .first)) o) (c .unselected .ensures),
+    )
+
+pub fresh-spec : {M : Type 1} → statement M
+fresh-spec = tie.close (tie.spec nowhere-requires unselected-requires returns)

@@ -1,0 +1,102 @@
+-- `sender::prepare::prioritize` meets its contract. Assumes nothing.
+use mathlib.Core.Path.{sym, subst, _∙_}
+use borrow.Author.Needs.{needs}
+use borrow.Author.Tests.{not-true, not-false}
+use Rattle.transfer.specs.Invariant.{Sound}
+use Rattle.transfer.specs.State.{ofEcho}
+use Rattle.transfer.proofs.Alive.{frames-live}
+use Rattle.sender.specs.Arrays.{viewOf}
+use Rattle.sender.proofs.Chosen.{found-low, found-live, fronted-by, found-kept, prioritize-none, prioritize-idle, prioritize-ready}
+use Rattle.sender.proofs.prepare.prioritize.Statement.{statement}
+use Rattle.sender.proofs.prepare.prioritize.Tie as tie
+
+find-requires : tie.Need-find-requires
+find-requires c κs = let b = c .before in b .pre .0 .fitted
+
+dropped-requires : tie.Need-dropped-requires
+dropped-requires c κs = search needs
+
+returns : tie.Need-returns
+returns c =
+    let b = c .before .before .before .before .before .before in
+    let a = b .args in
+    let f = c .before .before .before .before .find in
+    (b .pre .0 .fitted, prioritize-none (viewOf (a .s)) (a .store .now) (a .echo) (f .ensures) (not-true (f .result .held) (c .before .if1 .taken)) (c .dropped .ensures))
+
+repeated-requires : tie.Need-repeated-requires
+repeated-requires c κs =
+    let b = c .before .before .before .before .before in
+    let a = b .args in
+    let f = c .before .before .before .find in
+    frames-live (f .result .transfer) (found-live (viewOf (a .s)) (b .pre .0 .sound) (ofEcho (a .echo)) (f .ensures) (not-false (f .result .held) (c .if1 .left)))
+
+moved-to-front-requires : tie.Need-moved-to-front-requires
+moved-to-front-requires c κs =
+    let b = c .before .before .before .before .before .before .before in
+    let a = b .args in
+    let f = c .before .before .before .before .before .find in
+    (b .pre .0 .fitted, found-low (viewOf (a .s)) (b .pre .0 .sound) (ofEcho (a .echo)) (f .ensures) (not-false (f .result .held) (c .before .before .if1 .left)))
+
+only-echo-requires : tie.Need-only-echo-requires
+only-echo-requires c κs = search needs
+
+dropped-requires-2 : tie.Need-dropped-requires-2
+dropped-requires-2 c κs = search needs
+
+returns-2 : tie.Need-returns-2
+unfolding viewOf
+returns-2 c =
+    let b = c .before .before .before .before .before .before .before .before .before .before .before .before in
+    let a = b .args in
+    let f = c .before .before .before .before .before .before .before .before .before .before .find in
+    let m = c .before .before .before .before .moved-to-front in (
+      record { pending = m .ensures .0 .pending; waiting = m .ensures .0 .waiting },
+      prioritize-idle (viewOf (a .s)) (a .store .now) (a .echo) (f .ensures) (not-false (f .result .held) (c .before .before .before .before .before .before .before .if1 .left)) (c .before .before .before .before .before .before .repeated .ensures)
+          (fronted-by (viewOf (a .s)) (a .echo) (f .result .place) (f .result .transfer) (c .before .before .before .before .before .before .repeated .ensures) (m .ensures .1) (c .before .before .before .only-echo .ensures))
+          (c .before .if2 .taken) (c .dropped2 .ensures),
+    )
+
+choose-requires : tie.Need-choose-requires
+unfolding viewOf
+choose-requires c κs =
+    let b = c .before .before .before .before .before .before .before .before .before .before .before in
+    let a = b .args in
+    let f = c .before .before .before .before .before .before .before .before .before .find in
+    let m = c .before .before .before .moved-to-front in (
+      record {
+        fitted = record { pending = m .ensures .0 .pending; waiting = m .ensures .0 .waiting };
+        sound =
+            subst Sound (sym (fronted-by (viewOf (a .s)) (a .echo) (f .result .place) (f .result .transfer) (c .before .before .before .before .before .repeated .ensures) (m .ensures .1) (c .before .before .only-echo .ensures)))
+            (found-kept (viewOf (a .s)) (ofEcho (a .echo)) (a .echo) (f .ensures) (not-false (f .result .held) (c .before .before .before .before .before .before .if1 .left)) (b .pre .0 .sound));
+      },
+      b .pre .1,
+    )
+
+returns-3 : tie.Need-returns-3
+unfolding viewOf
+returns-3 c =
+    let b = c .before .before .before .before .before .before .before .before .before .before .before .before in
+    let a = b .args in
+    let f = c .before .before .before .before .before .before .before .before .before .before .find in
+    let m = c .before .before .before .before .moved-to-front in (
+      c .choose .ensures .0,
+      c .choose .ensures .1
+          ∙ prioritize-ready (viewOf (a .s)) (a .store .now) (a .echo) (f .ensures) (not-false (f .result .held) (c .before .before .before .before .before .before .before .if1 .left)) (c .before .before .before .before .before .before .repeated .ensures)
+          (fronted-by (viewOf (a .s)) (a .echo) (f .result .place) (f .result .transfer) (c .before .before .before .before .before .before .repeated .ensures) (m .ensures .1) (c .before .before .before .only-echo .ensures))
+          (c .before .if2 .left),
+    )
+
+pub prioritize-spec : {M : Type 1} → statement M
+prioritize-spec =
+    tie.close
+    (tie.spec
+    find-requires
+    dropped-requires
+    returns
+    repeated-requires
+    moved-to-front-requires
+    only-echo-requires
+    dropped-requires-2
+    returns-2
+    choose-requires
+    returns-3)

@@ -1,0 +1,64 @@
+// A sender as the constructor makes it.
+use super::EventSlot;
+use super::Selection;
+use super::Sender;
+use super::table::nowhere;
+use rach::MobileIdentity;
+use transfer::Event;
+use transfer::FrameToken;
+use transfer::Generation;
+use transfer::PreparedFrame;
+use transfer::Submission;
+ghost use mathlib.Core.Option.{none};
+ghost use mathlib.Core.Path.{_≡_};
+ghost use Rattle.transfer.specs.State as state;
+ghost use Rattle.sender.specs.Arrays.{selectionOf, viewOf, Fitted};
+
+// No frame is selected.
+fn unselected() -> Selection
+    ensures { λ r. ⌜ selectionOf r ≡ none ⌝ }
+{
+    let identity = MobileIdentity::Tmsi20(0);
+    let token = FrameToken {
+        generation: Generation(0),
+        submission: Submission(0),
+        frame: 0,
+    };
+    let octets = [0u8; 14];
+    let frame = PreparedFrame {
+        identity: identity,
+        octets: octets,
+        token: token,
+        partial_echo: 0,
+    };
+    Selection {
+        held: false,
+        frame: frame,
+    }
+}
+
+// No transfer, no event, every echo free, both clocks at 0.
+pub fn fresh(capacity: usize, echo_guard_ms: u64, startup_until_block: u64, first: u64) -> Sender
+    ensures { λ r. ⌜ Fitted r × (viewOf r ≡ state.fresh capacity «echo_guard_ms» «startup_until_block» first) ⌝ }
+{
+    let x = nowhere(0).transfer;
+    let slot = EventSlot {
+        event: Event::Complete(0),
+    };
+    let selected = unselected();
+    Sender {
+        transfers: [x; 128],
+        pending: 0,
+        events: [slot; 256],
+        waiting: 0,
+        echo_until_ms: [0u64; 128],
+        next_echo: 0,
+        selected: selected,
+        capacity: capacity,
+        startup_until_block: startup_until_block,
+        echo_guard_ms: echo_guard_ms,
+        last_block: 0,
+        last_ms: 0,
+        next_token: first,
+    }
+}

@@ -1,0 +1,747 @@
+-- What each change of a sender keeps of `Sound`, and then each call. Assumes nothing.
+use mathlib.Core.Path.{_≡_, refl, sym, ap, subst, _∙_}
+use mathlib.Core.Logic.{_≢_, _⊎_, ⊎-elim}
+use mathlib.Core.Bool.{Bool, true, false, cond, not, _&&_, _||_}
+use mathlib.Core.List.{List, [], _∷_, _++_, map, append-nil}
+use mathlib.Core.Option.{Option, none, some}
+use Prim.Native.Nat.{ℕ, zero, suc, _+_, _*_, _^_, _-_, _≤_, _<_}
+use lib.Bits.{and-zero-r}
+use lib.Pow.{pow-pos, pow-mono}
+use native.Mathlib.Omega.{arith}
+use lib.Dec.{eqb, leb, ltb}
+use lib.ListN.{length, take, drop, getD, set, length-set, length-append, length-map}
+use lib.Seq.{set-split}
+use borrow.Author.Tests.{eqb-true, eqb-false, eq-eqb, ne-eqb, leb-false, lt-leb, ltb-true, ltb-false, not-false}
+use Rattle.token.specs.Token.{stop, numberAfter, fewerThan}
+use Rattle.rach.specs.Identity.{typeOf, valueOf, same, encodable}
+use Rattle.rach.specs.declared.MobileIdentity.{MobileIdentity}
+use Rattle.spach.specs.Header.{usageOf}
+use Rattle.spach.specs.Refusal.{Outcome, gives, refuses, refuse, After, onward}
+use Rattle.spach.proofs.Outcomes.{passed, then-gives}
+use Rattle.arq.specs.declared.ArqHeader.{ArqHeader}
+use Rattle.arq.specs.Cut.{continues, countOf}
+use Rattle.receiver.proofs.Ways.{by-bool}
+use Rattle.transfer.specs.declared.TransferToken.{TransferToken}
+use Rattle.transfer.specs.declared.FrameToken.{FrameToken}
+use Rattle.transfer.specs.declared.Request.{Request}
+use Rattle.transfer.specs.declared.Parcel.{Parcel}
+use Rattle.transfer.specs.declared.Event.{Event}
+use Rattle.transfer.specs.declared.Event.the-variants.{Cancelled}
+use Rattle.transfer.specs.declared.Since.{Since}
+use Rattle.transfer.specs.declared.Since.the-variants.{Never, Block}
+use Rattle.transfer.specs.declared.Transfer.{Transfer}
+use Rattle.transfer.specs.declared.PreparedFrame.{PreparedFrame}
+use Rattle.transfer.specs.Lists.{position, any, removeAt, pushBack}
+use Rattle.transfer.specs.State.{Limits, Echoes, Clock, View, Lent, Out, fresh, newOf, short, ticked, admitted, says, refusal, goesOn, seek, ofGeneration, withClock, withTransfers, withEvents, withEchoes, withSelected, tokenTaken, blankTransfer, putAt, unselect, ended, cancelAt}
+use Rattle.transfer.specs.Echo.{freeEcho, heldUntil, hold}
+use Rattle.transfer.specs.Queue.{firstFrames, front}
+use Rattle.transfer.specs.Transfer.{headerOf, begun}
+use Rattle.transfer.specs.Advance.{overdue, kept}
+use Rattle.transfer.specs.Enqueue.{addressed, Grant, granted, allocated, grantOf, lowestFrom, lowestN, parcelOf, accepts, enqueueOf}
+use Rattle.transfer.specs.Prepare.{isReady}
+use Rattle.transfer.specs.Submitted.{isSelected, inFlight, handedIn, submittedAt, submittedOf}
+use Rattle.transfer.specs.Cancel.{cancelFirst, cancelOf, ownedBy, cancelTransactionOf, cancelAllOf}
+use Rattle.transfer.specs.Queries.{popFrom, popEventOf}
+use Rattle.transfer.specs.Invariant.{All, all-none, Some, Pairs, pairs-none, ByBlock, Accepted, SetsAgree, Live, Different, Chosen, Selected, Sound}
+use Rattle.transfer.proofs.Listed.{all-map, all-both, all-in, all-at, all-removed, all-back, some-map, some-all, some-in, some-one, some-removed, some-left, pairs-map, pairs-in, pairs-at, pairs-removed, pairs-back, length-in, length-removed, length-back, any-false, any-true, position-none, position-found, pigeon}
+use Rattle.transfer.proofs.Alive.{in-flight-live}
+use Rattle.transfer.proofs.Around.{free-now, held-after, held-other}
+use Rattle.transfer.proofs.Fresh.{fresh-sound}
+
+-- ---- two transfers
+
+eqb-sym : (a b : ℕ) → eqb a b ≡ eqb b a
+eqb-sym a b = ⊎-elim (λ e. e ∙ sym (eq-eqb b a (sym (eqb-true a b e)))) (λ e. e ∙ sym (ne-eqb b a (λ q. eqb-false a b e (sym q)))) (by-bool (eqb a b))
+
+-- `same` either way round
+pub same-sym : (a b : MobileIdentity) → same a b ≡ same b a
+unfolding same
+same-sym a b = rw (eqb-sym (typeOf a) (typeOf b), eqb-sym (valueOf a) (valueOf b))
+
+-- two live transfers differ either way round
+pub different-sym : (c : Clock) (x y : Transfer) → Different c x y → Different c y x
+different-sym c x y h =
+    record {
+      identity = same-sym (y .parcel .identity) (x .parcel .identity) ∙ h .identity;
+      place = λ e. h .place (sym e);
+      owner = λ e. h .owner (sym e);
+      generation = λ e. h .generation (sym e);
+      echo = λ a b e. h .echo b a (sym e);
+    }
+
+-- a transfer of the same parcel, generation and echo differs from what the first one differs from
+pub different-same : (c : Clock) (x y z : Transfer) → y .parcel ≡ x .parcel → y .generation ≡ x .generation → y .echo ≡ x .echo → Different c x z → Different c y z
+different-same c x y z p g e h = record { identity = rw p (h .identity); place = rw p (h .place); owner = rw p (h .owner); generation = rw g (h .generation); echo = rw (p, e) (h .echo) }
+
+-- ---- the clock moves on
+
+module _ (c : Clock) (block ms : ℕ) (hb : c .«last_block» ≤ block) (hm : c .«last_ms» ≤ ms) where
+  abbrev later : Clock
+  later = record { «last_block» = block; «last_ms» = ms }
+
+  -- what is not overdue later was not before
+  pub not-overdue : (x : Transfer) → overdue later x ≡ false → overdue c x ≡ false
+  not-overdue x e = let h = leb-false (x .parcel .«deadline_ms») ms e in lt-leb (x .parcel .«deadline_ms») (c .«last_ms») (omega arith)
+
+  by-later : (s : Since) → ByBlock (c .«last_block») s → ByBlock block s
+  by-later Never h = tt
+  by-later (Block b) h = omega arith
+
+  -- a live transfer stays so
+  pub live-later : (l : Limits) (e : Echoes) (next : ℕ) (x : Transfer) → Live l c e next x → Live l later e next x
+  live-later l e next x h =
+      let u = h .usable in
+      record {
+        accepted = h .accepted;
+        sets = h .sets;
+        timed = record { progress = by-later (x .blocks .«last_progress») (h .timed .progress); waiting = by-later (x .blocks .«waiting_since») (h .timed .waiting); last-frame = h .timed .last-frame };
+        holds = record { echo = h .holds .echo; fits = h .holds .fits; held = λ o. h .holds .held (not-overdue x o) };
+        place = h .place;
+        usable = omega arith;
+        owner = h .owner;
+        generation = h .generation;
+      }
+
+  -- two stay different
+  pub different-later : (x y : Transfer) → Different c x y → Different later x y
+  different-later x y h = record { identity = h .identity; place = h .place; owner = h .owner; generation = h .generation; echo = λ a b. h .echo (not-overdue x a) (not-overdue y b) }
+
+-- the clock moves on
+pub clock-kept : (v : View) (block ms : ℕ) → v .clock .«last_block» ≤ block → v .clock .«last_ms» ≤ ms → Sound v → Sound (withClock v (record { «last_block» = block; «last_ms» = ms }))
+clock-kept v block ms hb hm h =
+    record {
+      some-capacity = h .some-capacity;
+      most-capacity = h .most-capacity;
+      live = h .live;
+      accounted = h .accounted;
+      echoes = h .echoes;
+      next-echo = h .next-echo;
+      transfers = all-map (live-later (v .clock) block ms hb hm (v .limits) (v .echoes) (v .«next_token»)) (h .transfers);
+      different = pairs-map (different-later (v .clock) block ms hb hm) (h .different);
+      selected = h .selected;
+      counter = h .counter;
+    }
+
+-- ---- one transfer is taken out
+
+-- a selected frame that is not of this generation is another's
+selected-removed : (l : List Transfer) (place next : ℕ) (x : Transfer) (s : Option PreparedFrame) → ((f : PreparedFrame) → Some (Chosen f) l → Chosen f x ⊎ Some (Chosen f) (removeAt place l)) → Selected l next s → Selected (removeAt place l) next (unselect (x .generation) s)
+selected-removed l place next x none out h = tt
+selected-removed l place next x (some f) out h = go (eqb (f .token .generation .0) (x .generation .0)) refl
+  where
+    go : (b : Bool) → eqb (f .token .generation .0) (x .generation .0) ≡ b → Selected (removeAt place l) next (cond b none (some f))
+    go true e = tt
+    go false e = (⊎-elim (λ (c : Chosen f x). absurd (eqb-false _ _ e (c .generation))) (λ k. k) (out f (h .0)), h .1)
+
+-- a transfer ends with an event
+pub removed-kept : (v : View) (place : ℕ) (e : Event) → place < length (v .transfers) → Sound v → Sound (ended (withTransfers v (removeAt place (v .transfers))) (getD (v .transfers) place blankTransfer) e)
+removed-kept v place e lt h =
+    let l = v .transfers in
+    let n : length l ≡ suc (length (removeAt place l)) = length-removed l place blankTransfer lt in
+    let m : length (pushBack (v .events) e) ≡ suc (length (v .events)) = length-back (v .events) e in
+    let a = h .live in
+    let b = h .accounted in
+    record {
+      some-capacity = h .some-capacity;
+      most-capacity = h .most-capacity;
+      live = omega arith;
+      accounted = omega arith;
+      echoes = h .echoes;
+      next-echo = h .next-echo;
+      transfers = all-removed l place blankTransfer lt (h .transfers);
+      different = pairs-removed l place blankTransfer lt (h .different);
+      selected = selected-removed l place (v .«next_token») (getD l place blankTransfer) (v .selected) (λ f. some-removed l place blankTransfer lt) (h .selected);
+      counter = h .counter;
+    }
+
+-- a transfer is taken out, and Cancelled
+pub cancel-kept : (v : View) (place : ℕ) → place < length (v .transfers) → Sound v → Sound (cancelAt v place (getD (v .transfers) place blankTransfer))
+cancel-kept v place lt h = removed-kept v place _ lt h
+
+-- ---- one transfer changes, or moves
+
+-- nothing is selected any more
+pub unselected-kept : (v : View) → Sound v → Sound (withSelected v none)
+unselected-kept v h = record { some-capacity = h .some-capacity; most-capacity = h .most-capacity; live = h .live; accounted = h .accounted; echoes = h .echoes; next-echo = h .next-echo; transfers = h .transfers; different = h .different; selected = tt; counter = h .counter }
+
+module _ (v : View) (place : ℕ) (y : Transfer) (a b : List Transfer) where
+  abbrev there : Transfer
+  there = getD (v .transfers) place blankTransfer
+
+  -- of the transfer at a place there stands y among the others, in their order, and s is selected
+  pub placed-kept : (s : Option PreparedFrame) → place < length (v .transfers) → a ++ b ≡ removeAt place (v .transfers)
+      → y .parcel ≡ there .parcel → y .generation ≡ there .generation → y .echo ≡ there .echo → Live (v .limits) (v .clock) (v .echoes) (v .«next_token») y
+      → Selected (a ++ y ∷ b) (v .«next_token») s → Sound v → Sound (withSelected (withTransfers v (a ++ y ∷ b)) s)
+  placed-kept s lt e p g k live sel h =
+      let l = v .transfers in
+      let n : length l ≡ suc (length (removeAt place l)) = length-removed l place blankTransfer lt in
+      let m : length (a ++ y ∷ b) ≡ suc (length (a ++ b)) = length-in a y b in
+      let o : length (a ++ b) ≡ length (removeAt place l) = ap length e in
+      let i = h .live in
+      let j = h .accounted in
+      record {
+        some-capacity = h .some-capacity;
+        most-capacity = h .most-capacity;
+        live = omega arith;
+        accounted = omega arith;
+        echoes = h .echoes;
+        next-echo = h .next-echo;
+        transfers = all-in a y b live (subst (All (Live (v .limits) (v .clock) (v .echoes) (v .«next_token»))) (sym e) (all-removed l place blankTransfer lt (h .transfers)));
+        different = pairs-in (different-sym (v .clock)) a y b
+            (subst (All (Different (v .clock) y)) (sym e) (all-map (λ z. different-same (v .clock) there y z p g k) (pairs-at l place blankTransfer lt (different-sym (v .clock)) (h .different))))
+            (subst (Pairs (Different (v .clock))) (sym e) (pairs-removed l place blankTransfer lt (h .different)));
+        selected = sel;
+        counter = h .counter;
+      }
+
+  selected-placed : (s : Option PreparedFrame) → place < length (v .transfers) → a ++ b ≡ removeAt place (v .transfers) → ((f : PreparedFrame) → Chosen f there → Chosen f y)
+      → Selected (v .transfers) (v .«next_token») s → Selected (a ++ y ∷ b) (v .«next_token») s
+  selected-placed none lt e c h = tt
+  selected-placed (some f) lt e c h =
+      (⊎-elim (λ (q : Chosen f there). some-one a y b (c f q)) (λ q. some-in a y b (subst (Some (Chosen f)) (sym e) q)) (some-removed (v .transfers) place blankTransfer lt (h .0)), h .1)
+
+  -- the same where a frame that was chosen of it is chosen of y, and stays selected
+  pub moved-kept : place < length (v .transfers) → a ++ b ≡ removeAt place (v .transfers)
+      → y .parcel ≡ there .parcel → y .generation ≡ there .generation → y .echo ≡ there .echo → Live (v .limits) (v .clock) (v .echoes) (v .«next_token») y
+      → ((f : PreparedFrame) → Chosen f there → Chosen f y) → Sound v → Sound (withTransfers v (a ++ y ∷ b))
+  moved-kept lt e p g k live c h = placed-kept (v .selected) lt e p g k live (selected-placed (v .selected) lt e c (h .selected)) h
+
+module _ (v : View) (place : ℕ) (y : Transfer) (lt : place < length (v .transfers)) (p : y .parcel ≡ getD (v .transfers) place blankTransfer .parcel) (g : y .generation ≡ getD (v .transfers) place blankTransfer .generation)
+    (k : y .echo ≡ getD (v .transfers) place blankTransfer .echo) (live : Live (v .limits) (v .clock) (v .echoes) (v .«next_token») y) where
+  -- the transfer at a place is another of the same parcel, generation and echo, whose frame may be selected
+  pub changed-kept : ((f : PreparedFrame) → Chosen f (getD (v .transfers) place blankTransfer) → Chosen f y) → Sound v → Sound (putAt v place y)
+  changed-kept c h = subst (λ l. Sound (withTransfers v l)) (sym (set-split (v .transfers) place y lt)) (moved-kept v place y (take place (v .transfers)) (drop (suc place) (v .transfers)) lt refl p g k live c h)
+
+  -- and with any selection that is right
+  pub changed-selecting : (s : Option PreparedFrame) → Selected (set (v .transfers) place y) (v .«next_token») s → Sound v → Sound (withSelected (putAt v place y) s)
+  changed-selecting s sel h =
+      subst (λ l. Sound (withSelected (withTransfers v l) s)) (sym (set-split (v .transfers) place y lt))
+      (placed-kept v place y (take place (v .transfers)) (drop (suc place) (v .transfers)) s lt refl p g k live (subst (λ l. Selected l (v .«next_token») s) (set-split (v .transfers) place y lt) sel) h)
+
+  -- and with none
+  pub changed-unselected : Sound v → Sound (withSelected (putAt v place y) none)
+  changed-unselected h = changed-selecting none tt h
+
+  -- it goes to the front
+  pub changed-front : ((f : PreparedFrame) → Chosen f (getD (v .transfers) place blankTransfer) → Chosen f y) → Sound v → Sound (withTransfers v (y ∷ removeAt place (v .transfers)))
+  changed-front c h = moved-kept v place y [] (removeAt place (v .transfers)) lt refl p g k live c h
+
+  -- there, with any selection that is right
+  pub changed-front-selecting : (s : Option PreparedFrame) → Selected (y ∷ removeAt place (v .transfers)) (v .«next_token») s → Sound v → Sound (withSelected (withTransfers v (y ∷ removeAt place (v .transfers))) s)
+  changed-front-selecting s sel h = placed-kept v place y [] (removeAt place (v .transfers)) s lt refl p g k live sel h
+
+  -- it goes to the back
+  pub changed-back : ((f : PreparedFrame) → Chosen f (getD (v .transfers) place blankTransfer) → Chosen f y) → Sound v → Sound (withTransfers v (pushBack (removeAt place (v .transfers)) y))
+  changed-back c h = moved-kept v place y (removeAt place (v .transfers)) [] lt (append-nil _) p g k live c h
+
+  -- there, with none selected
+  pub changed-back-unselected : Sound v → Sound (withSelected (withTransfers v (pushBack (removeAt place (v .transfers)) y)) none)
+  changed-back-unselected h = placed-kept v place y (removeAt place (v .transfers)) [] none lt (append-nil _) p g k live tt h
+
+-- a transfer goes to the front
+pub front-kept : (v : View) (place : ℕ) → place < length (v .transfers) → Sound v → Sound (withTransfers v (getD (v .transfers) place blankTransfer ∷ removeAt place (v .transfers)))
+front-kept v place lt h = changed-front v place (getD (v .transfers) place blankTransfer) lt refl refl refl (all-at (v .transfers) place blankTransfer lt (h .transfers)) (λ f c. c) h
+
+-- or to the back
+pub back-kept : (v : View) (place : ℕ) → place < length (v .transfers) → Sound v → Sound (withTransfers v (pushBack (removeAt place (v .transfers)) (getD (v .transfers) place blankTransfer)))
+back-kept v place lt h = changed-back v place (getD (v .transfers) place blankTransfer) lt refl refl refl (all-at (v .transfers) place blankTransfer lt (h .transfers)) (λ f c. c) h
+
+-- ---- an echo is held
+
+-- no live transfer that is not overdue has an echo that is free
+pub free-unheld : (v : View) {echo : ℕ} → freeEcho (v .echoes) (v .clock .«last_ms») ≡ some echo → Sound v → All (λ x. overdue (v .clock) x ≡ false → x .echo ≢ echo) (v .transfers)
+free-unheld v {echo} q h = all-map go (h .transfers)
+  where
+    go : (x : Transfer) → Live (v .limits) (v .clock) (v .echoes) (v .«next_token») x → overdue (v .clock) x ≡ false → x .echo ≢ echo
+    go x k o e =
+        let f : getD (v .echoes .«echo_until_ms») echo 0 ≤ v .clock .«last_ms» = free-now (v .echoes) (h .echoes) (h .next-echo) (v .clock .«last_ms») q .1 in
+        let u : getD (v .echoes .«echo_until_ms») (x .echo) 0 ≡ heldUntil (v .limits) (x .parcel .«deadline_ms») = k .holds .held o in
+        let w : getD (v .echoes .«echo_until_ms») (x .echo) 0 ≡ getD (v .echoes .«echo_until_ms») echo 0 = ap (λ (i : ℕ). getD (v .echoes .«echo_until_ms») i 0) e in
+        let d = leb-false (x .parcel .«deadline_ms») (v .clock .«last_ms») o in
+        absurd (omega arith)
+
+-- what a hold of another's echo leaves live
+pub live-hold : (l : Limits) (c : Clock) (e : Echoes) (next echo until : ℕ) (x : Transfer) → (overdue c x ≡ false → x .echo ≢ echo) → Live l c e next x → Live l c (hold e echo until) next x
+live-hold l c e next echo until x n h =
+    record {
+      accepted = h .accepted;
+      sets = h .sets;
+      timed = h .timed;
+      holds = record { echo = h .holds .echo; fits = h .holds .fits; held = λ o. held-other e echo until (x .echo) (n o) ∙ h .holds .held o };
+      place = h .place;
+      usable = h .usable;
+      owner = h .owner;
+      generation = h .generation;
+    }
+
+-- a free echo is held
+pub hold-kept : (v : View) (echo until : ℕ) → freeEcho (v .echoes) (v .clock .«last_ms») ≡ some echo → Sound v → Sound (withEchoes v (hold (v .echoes) echo until))
+hold-kept v echo until q h =
+    record {
+      some-capacity = h .some-capacity;
+      most-capacity = h .most-capacity;
+      live = h .live;
+      accounted = h .accounted;
+      echoes = length-set (v .echoes .«echo_until_ms») echo until ∙ h .echoes;
+      next-echo = omega arith;
+      transfers = all-map (λ x k. live-hold (v .limits) (v .clock) (v .echoes) (v .«next_token») echo until x (k .0) (k .1)) (all-both (free-unheld v q h) (h .transfers));
+      different = h .different;
+      selected = h .selected;
+      counter = h .counter;
+    }
+
+-- ---- a token is taken
+
+-- numbers below the next one stay so
+pub below-after : (n next : ℕ) → next ≤ stop → n < next → n < numberAfter next
+below-after n next h k = omega arith
+
+-- a live transfer stays so
+pub live-after : (l : Limits) (c : Clock) (e : Echoes) (next : ℕ) (x : Transfer) → next ≤ stop → Live l c e next x → Live l c e (numberAfter next) x
+live-after l c e next x s h =
+    record {
+      accepted = h .accepted;
+      sets = h .sets;
+      timed = h .timed;
+      holds = h .holds;
+      place = h .place;
+      usable = h .usable;
+      owner = below-after (x .parcel .owner .0) next s (h .owner);
+      generation = below-after (x .generation .0) next s (h .generation);
+    }
+
+selected-after : (l : List Transfer) (next : ℕ) (s : Option PreparedFrame) → next ≤ stop → Selected l next s → Selected l (numberAfter next) s
+selected-after l next none k h = tt
+selected-after l next (some f) k h = (h .0, below-after (f .token .submission .0) next k (h .1))
+
+-- the next token is taken
+pub token-kept : (v : View) → Sound v → Sound (tokenTaken v)
+token-kept v h =
+    record {
+      some-capacity = h .some-capacity;
+      most-capacity = h .most-capacity;
+      live = h .live;
+      accounted = h .accounted;
+      echoes = h .echoes;
+      next-echo = h .next-echo;
+      transfers = all-map (λ x. live-after (v .limits) (v .clock) (v .echoes) (v .«next_token») x (h .counter)) (h .transfers);
+      different = h .different;
+      selected = selected-after (v .transfers) (v .«next_token») (v .selected) (h .counter) (h .selected);
+      counter = omega arith;
+    }
+
+-- ---- one transfer more
+
+selected-back : (l : List Transfer) (x : Transfer) (next : ℕ) (s : Option PreparedFrame) → Selected l next s → Selected (pushBack l x) next s
+selected-back l x next none h = tt
+selected-back l x next (some f) h = (some-left l (x ∷ []) (h .0), h .1)
+
+-- a live transfer that differs from all goes to the back
+pub joined-kept : (w : View) (x : Transfer) → Live (w .limits) (w .clock) (w .echoes) (w .«next_token») x → All (Different (w .clock) x) (w .transfers)
+    → length (w .transfers) < w .limits .capacity → length (w .transfers) + length (w .events) < 2 * w .limits .capacity → Sound w → Sound (kept w x)
+joined-kept w x live d a b h =
+    let n : length (pushBack (w .transfers) x) ≡ suc (length (w .transfers)) = length-back (w .transfers) x in
+    record {
+      some-capacity = h .some-capacity;
+      most-capacity = h .most-capacity;
+      live = omega arith;
+      accounted = omega arith;
+      echoes = h .echoes;
+      next-echo = h .next-echo;
+      transfers = all-back (w .transfers) x live (h .transfers);
+      different = pairs-back (w .transfers) x (different-sym (w .clock)) d (h .different);
+      selected = selected-back (w .transfers) x (w .«next_token») (w .selected) (h .selected);
+      counter = h .counter;
+    }
+
+-- a parcel and an echo that are not those of a live transfer
+pub record Unlike (c : Clock) (p : Parcel) (echo : ℕ) (x : Transfer) : Type 0 where
+  pub identity : same (p .identity) (x .parcel .identity) ≡ false
+  pub place : p .n ≢ x .parcel .n
+  pub owner : p .owner .0 ≢ x .parcel .owner .0
+  pub other : overdue c x ≡ false → x .echo ≢ echo
+
+-- a parcel and an echo under which a transfer may begin
+pub record Newcomer (w : View) (p : Parcel) (echo : ℕ) : Type 0 where
+  pub accepted : Accepted (begun p echo (w .«next_token»))
+  pub low : echo < 128
+  pub fits : heldUntil (w .limits) (p .«deadline_ms») ≤ stop
+  pub held : getD (w .echoes .«echo_until_ms») echo 0 ≡ heldUntil (w .limits) (p .«deadline_ms»)
+  pub place : p .n < w .limits .capacity
+  pub usable : w .limits .«startup_until_block» ≤ w .clock .«last_block»
+  pub owner : p .owner .0 ≤ w .«next_token»
+  pub counter : w .«next_token» < stop
+  pub others : All (Unlike (w .clock) p echo) (w .transfers)
+  pub live : length (w .transfers) < w .limits .capacity
+  pub accounted : length (w .transfers) + length (w .events) < 2 * w .limits .capacity
+
+-- a transfer that begins has frames, all of them queued
+begun-sets : (p : Parcel) (echo t : ℕ) → 1 ≤ p .frames → SetsAgree (begun p echo t)
+begun-sets p echo t h =
+    record {
+      queue = omega (arith, pow-pos (p .frames));
+      in-flight = pow-pos (p .frames);
+      transmitted = pow-pos (p .frames);
+      observed = pow-pos (p .frames);
+      disjoint = and-zero-r (firstFrames (p .frames));
+      no-begin = refl;
+      went-out = refl;
+      submitted = λ k. let e = eqb-true (firstFrames (p .frames)) 0 k in let m : 2 ^ 1 ≤ 2 ^ p .frames = pow-mono h in absurd (omega arith);
+    }
+
+newcomer-live : (w : View) (p : Parcel) (echo : ℕ) → Newcomer w p echo → Live (w .limits) (w .clock) (w .echoes) (numberAfter (w .«next_token»)) (begun p echo (w .«next_token»))
+newcomer-live w p echo h =
+    let f : p .frames ≡ 1 + continues (p .identity) (p .octets) = h .accepted .frames in
+    let o = h .owner in
+    let c = h .counter in
+    record {
+      accepted = h .accepted;
+      sets = begun-sets p echo (w .«next_token») (omega arith);
+      timed = record { progress = tt; waiting = tt; last-frame = tt };
+      holds = record { echo = h .low; fits = h .fits; held = λ a. h .held };
+      place = h .place;
+      usable = h .usable;
+      owner = omega arith;
+      generation = omega arith;
+    }
+
+-- its generation is the next number, which no live transfer has
+newcomer-different : (w : View) (p : Parcel) (echo : ℕ) (x : Transfer) → Live (w .limits) (w .clock) (w .echoes) (w .«next_token») x → Unlike (w .clock) p echo x → Different (w .clock) (begun p echo (w .«next_token»)) x
+newcomer-different w p echo x live u =
+    let g = live .generation in
+    record { identity = u .identity; place = u .place; owner = u .owner; generation = λ e. absurd (omega arith); echo = λ a b e. u .other b (sym e) }
+
+-- a transfer begins, at the back, under the next token
+pub added-kept : (w : View) (p : Parcel) (echo : ℕ) → Newcomer w p echo → Sound w → Sound (kept (tokenTaken w) (begun p echo (w .«next_token»)))
+added-kept w p echo n h =
+    joined-kept (tokenTaken w) (begun p echo (w .«next_token»)) (newcomer-live w p echo n) (all-map (λ x k. newcomer-different w p echo x (k .0) (k .1)) (all-both (h .transfers) (n .others))) (n .live) (n .accounted) (token-kept w h)
+
+-- ---- calls
+
+-- both ways of a test
+pub cond-cases : {X : Type 0} (P : X → Type 0) (t : Bool) (x y : X) → (t ≡ true → P x) → (t ≡ false → P y) → P (cond t x y)
+cond-cases P true x y a b = a refl
+cond-cases P false x y a b = b refl
+
+-- a search: none passes, or the one at the place does
+pub seek-cases : {X : Type 0} (P : X → Type 0) (test : Transfer → Bool) (l : List Transfer) (nothing : X) (found : ℕ → Transfer → X) → (All (λ x. test x ≡ false) l → P nothing)
+    → ((i : ℕ) → i < length l → test (getD l i blankTransfer) ≡ true → P (found i (getD l i blankTransfer))) → P (seek test l nothing found)
+seek-cases P test l nothing found a b =
+    cond-cases P (ltb (position test l) (length l)) (found (position test l) (getD l (position test l) blankTransfer)) nothing
+    (λ e. let lt = ltb-true (position test l) (length l) e in b (position test l) lt (position-found test blankTransfer l lt)) (λ e. a (position-none test l (ltb-false (position test l) (length l) e)))
+
+-- a call that goes on with what was let through, or refuses and leaves the state
+pub onward-cases : {A S : Type 0} (P : S → Type 0) (s : S) (o : Outcome S) (f : S → After A S) → P s → ((t : S) → o ≡ gives t → P (f t .state)) → P (onward s o f .state)
+onward-cases P s (gives t) f h k = k t refl
+onward-cases P s (refuses n) f h k = h
+
+-- the same of a call that writes to the lent memory
+pub goes-cases : {A B : Type 0} (P : View → Type 0) (v : View) (m : Lent) (o : Outcome A) (f : A → Out B) → P v → ((a : A) → o ≡ gives a → P (f a .sender)) → P (goesOn v m o f .sender)
+goes-cases P v m (gives a) f h k = k a refl
+goes-cases P v m (refuses n) f h k = h
+
+neither : (a b : Bool) → (a || b) ≡ false → (a ≡ false) × (b ≡ false)
+neither true b h = let z : _≡_ {A = ℕ} 0 1 = cc in absurd (omega arith)
+neither false b h = (refl, h)
+
+both : (a b : Bool) → (a && b) ≡ true → (a ≡ true) × (b ≡ true)
+both true b e = (refl, e)
+both false b e = let z : _≡_ {A = ℕ} 0 1 = cc in absurd (omega arith)
+
+not-zero : (n : ℕ) → eqb n 0 ≡ false → 1 ≤ n
+not-zero zero e = absurd (eqb-false 0 0 e refl)
+not-zero (suc n) e = omega arith
+
+-- a clock that is let through has not gone back, and is the sender's then
+pub ticked-gives : (v : View) (block now : ℕ) {w : View} → ticked v block now ≡ gives w → (w ≡ withClock v (record { «last_block» = block; «last_ms» = now })) × (v .clock .«last_block» ≤ block) × (v .clock .«last_ms» ≤ now)
+ticked-gives v block now {w} e =
+    let p = passed (ltb block (v .clock .«last_block») || ltb now (v .clock .«last_ms»)) 22 (gives (withClock v (record { «last_block» = block; «last_ms» = now }))) e in
+    let t = neither (ltb block (v .clock .«last_block»)) (ltb now (v .clock .«last_ms»)) (p .0) in
+    let z : w ≡ withClock v (record { «last_block» = block; «last_ms» = now }) = let q = p .1 in cc in
+    (z, ltb-false _ _ (t .0), ltb-false _ _ (t .1))
+
+-- and keeps `Sound`
+pub ticked-kept : (v : View) (block now : ℕ) {w : View} → ticked v block now ≡ gives w → Sound v → Sound w
+ticked-kept v block now e h = let t = ticked-gives v block now e in subst Sound (sym (t .0)) (clock-kept v block now (t .1) (t .2) h)
+
+-- what is admitted: 512 tokens are left, and the clock has moved
+pub admitted-gives : (v : View) (m : Lent) (block now : ℕ) {w : View} → admitted v m block now ≡ gives w → (512 + v .«next_token» ≤ stop) × (ticked v block now ≡ gives w)
+admitted-gives v m block now e =
+    let p = passed (short m) 16 _ e in
+    let q = passed (fewerThan 512 (v .«next_token»)) 18 (ticked v block now) (p .1) in
+    let n = ltb-false (stop - v .«next_token») 512 (q .0) in
+    (omega arith, q .1)
+
+-- and `Sound` is kept
+pub admitted-kept : (v : View) (m : Lent) (block now : ℕ) {w : View} → admitted v m block now ≡ gives w → Sound v → Sound w
+admitted-kept v m block now e h = ticked-kept v block now (admitted-gives v m block now e .1) h
+
+-- and 512 tokens are left then too
+pub admitted-tokens : (v : View) (m : Lent) (block now : ℕ) {w : View} → admitted v m block now ≡ gives w → 512 + w .«next_token» ≤ stop
+admitted-tokens v m block now {w} e =
+    let a = admitted-gives v m block now e in
+    let z : w .«next_token» ≡ v .«next_token» = ap (λ (u : View). u .«next_token») (ticked-gives v block now (a .1) .0) in
+    let n = a .0 in
+    omega arith
+
+-- the constructor
+pub new-call-kept : (capacity guard firstBlock first : ℕ) {v : View} → newOf capacity guard firstBlock first ≡ gives v → first ≤ stop → Sound v
+unfolding newOf
+new-call-kept capacity guard firstBlock first {v} e h =
+    let p = passed (eqb capacity 0 || ltb 128 capacity) 19 (gives (fresh capacity guard firstBlock first)) e in
+    let z : fresh capacity guard firstBlock first ≡ v = let q = p .1 in cc in
+    let b = neither (eqb capacity 0) (ltb 128 capacity) (p .0) in
+    subst Sound z (fresh-sound capacity guard firstBlock first (not-zero capacity (b .0)) (ltb-false 128 capacity (b .1)) h)
+
+-- the first that passes is Cancelled
+pub cancel-first-kept : (p : Transfer → Bool) (v : View) → Sound v → Sound (cancelFirst p v .state)
+cancel-first-kept p v h = seek-cases {X = After Bool View} (λ a. Sound (a .state)) p (v .transfers) (says false v) (λ place x. says true (cancelAt v place x)) (λ n. h) (λ i lt t. cancel-kept v i lt h)
+
+-- `cancel`
+pub cancel-call-kept : (v : View) (i : MobileIdentity) → Sound v → Sound (cancelOf v i .state)
+unfolding cancelOf
+cancel-call-kept v i h = cancel-first-kept (addressed i) v h
+
+-- `cancel_transaction`
+pub cancel-transaction-call-kept : (v : View) (t : TransferToken) → Sound v → Sound (cancelTransactionOf v t .state)
+unfolding cancelTransactionOf
+cancel-transaction-call-kept v t h = cancel-first-kept (ownedBy t) v h
+
+-- `cancel_all`
+pub cancel-all-call-kept : (v : View) → Sound v → Sound (cancelAllOf v)
+unfolding cancelAllOf
+cancel-all-call-kept v h =
+    let e : Transfer → Event = λ x. Cancelled (x .parcel .completion) in
+    let n : length (v .events ++ map e (v .transfers)) ≡ length (v .events) + length (v .transfers) = length-append (v .events) (map e (v .transfers)) ∙ ap (λ (k : ℕ). length (v .events) + k) (length-map (v .transfers) e) in
+    let a = h .accounted in
+    record {
+      some-capacity = h .some-capacity;
+      most-capacity = h .most-capacity;
+      live = omega arith;
+      accounted = omega arith;
+      echoes = h .echoes;
+      next-echo = h .next-echo;
+      transfers = all-none;
+      different = pairs-none;
+      selected = tt;
+      counter = h .counter;
+    }
+
+-- with no more events than before
+pub events-kept : (v : View) (l : List Event) → length l ≤ length (v .events) → Sound v → Sound (withEvents v l)
+events-kept v l n h =
+    let a = h .accounted in
+    record { some-capacity = h .some-capacity; most-capacity = h .most-capacity; live = h .live; accounted = omega arith; echoes = h .echoes; next-echo = h .next-echo; transfers = h .transfers; different = h .different; selected = h .selected; counter = h .counter }
+
+pop-from-kept : (v : View) (l : List Event) → v .events ≡ l → Sound v → Sound (popFrom v l .state)
+pop-from-kept v [] e h = h
+pop-from-kept v (x ∷ l) e h = let n : length (v .events) ≡ suc (length l) = ap length e in events-kept v l (omega arith) h
+
+-- `pop_event`
+pub pop-event-call-kept : (v : View) → Sound v → Sound (popEventOf v .state)
+unfolding popEventOf
+pop-event-call-kept v h = pop-from-kept v (v .events) refl h
+
+-- ---- enqueue
+
+-- the lowest n is no live transfer's, and is at most how many there are
+pub lowest-free : (tries k : ℕ) (l : List Transfer) → ((j : ℕ) → j < k → Some (λ x. x .parcel .n ≡ j) l) → length l < k + tries → (lowestFrom tries k l ≤ length l) × All (λ x. lowestFrom tries k l ≢ x .parcel .n) l
+lowest-free zero k l h lt = let p = pigeon (λ (x : Transfer). x .parcel .n) k l h in absurd (omega arith)
+lowest-free (suc tries) k l h lt = go (any test l) refl (λ q. lowest-free tries (suc k) l q (omega arith))
+  where
+    test : Transfer → Bool
+    test x = eqb (x .parcel .n) k
+
+    go : (b : Bool) → any test l ≡ b → (((j : ℕ) → j < suc k → Some (λ x. x .parcel .n ≡ j) l) → (lowestFrom tries (suc k) l ≤ length l) × All (λ x. lowestFrom tries (suc k) l ≢ x .parcel .n) l)
+        → (cond b (lowestFrom tries (suc k) l) k ≤ length l) × All (λ x. cond b (lowestFrom tries (suc k) l) k ≢ x .parcel .n) l
+    go true e f =
+        f
+        (λ j m. ⊎-elim (λ q. h j (ltb-true j k q)) (λ q. let r = ltb-false j k q in let w : k ≡ j = omega arith in some-map (λ x t. eqb-true (x .parcel .n) k t ∙ w) (any-true test l e)) (by-bool (ltb j k)))
+    go false e f = (pigeon (λ (x : Transfer). x .parcel .n) k l h, all-map (λ x t q. eqb-false (x .parcel .n) k t (sym q)) (any-false test l e))
+
+-- what a count tells of its message
+pub count-gives : (h : ArqHeader) (i : MobileIdentity) (m : List ℕ) {n : ℕ} → countOf h i m ≡ gives n → (length m ≤ 255) × (usageOf (h .channel) ≢ 7) × (encodable i ≡ true) × (n ≡ 1 + continues i (length m))
+unfolding countOf
+count-gives h i m {n} e =
+    let a = passed (ltb 255 (length m)) 1 _ e in
+    let b = passed (eqb (usageOf (h .channel)) 7) 3 _ (a .1) in
+    let c = passed (ltb 127 (h .«partial_echo»)) 11 _ (b .1) in
+    let d = passed (not (encodable i)) 2 (gives (1 + continues i (length m))) (c .1) in
+    let z : n ≡ 1 + continues i (length m) = let q = d .1 in cc in
+    (ltb-false 255 (length m) (a .0), eqb-false (usageOf (h .channel)) 7 (b .0), not-false (encodable i) (d .0), z)
+
+-- what a request that is granted has passed
+pub record Passes (v : View) (r : Request) (message : List ℕ) (g : Grant) : Type 0 where
+  pub events : length (v .events) < v .limits .capacity
+  pub due : v .clock .«last_ms» < r .«deadline_ms»
+  pub some-octets : 1 ≤ length message
+  pub room : (not (any (addressed (r .identity)) (v .transfers)) && leb (v .limits .capacity) (length (v .transfers))) ≡ false
+  pub most-octets : length message ≤ 255
+  pub channel : usageOf (r .channel) ≢ 7
+  pub identity : encodable (r .identity) ≡ true
+  pub frames : g .frames ≡ 1 + continues (r .identity) (length message)
+  pub usable : v .limits .«startup_until_block» ≤ v .clock .«last_block»
+  pub fits : heldUntil (v .limits) (r .«deadline_ms») ≤ stop
+  pub echo : freeEcho (v .echoes) (v .clock .«last_ms») ≡ some (g .echo)
+
+granted-gives : (frames : ℕ) (o : Option ℕ) (g : Grant) → granted frames o ≡ gives g → (frames ≡ g .frames) × (o ≡ some (g .echo))
+granted-gives frames none g e = let z : _≡_ {A = ℕ} 0 1 = cc in absurd (omega arith)
+granted-gives frames (some echo) g e =
+    let z : _≡_ {A = Grant} (record { frames = frames; echo = echo }) g = cc in
+    (ap (λ (x : Grant). x .frames) z, ap (λ (x : Grant). some (x .echo)) z)
+
+-- no refusal of `enqueue` stands then
+pub grant-passes : (v : View) (r : Request) (message : List ℕ) {g : Grant} → grantOf v r message ≡ gives g → Passes v r message g
+unfolding grantOf
+grant-passes v r message {g} e =
+    let a = passed (leb (v .limits .capacity) (length (v .events))) 20 _ e in
+    let b = passed (leb (r .«deadline_ms») (v .clock .«last_ms»)) 23 _ (a .1) in
+    let c = passed (eqb (length message) 0) 1 _ (b .1) in
+    let d = passed (not (any (addressed (r .identity)) (v .transfers)) && leb (v .limits .capacity) (length (v .transfers))) 20 _ (c .1) in
+    let t = then-gives (countOf (headerOf (r .channel) 0 false) (r .identity) message) (allocated (v .limits) (v .clock) (v .echoes) (r .«deadline_ms»)) (d .1) in
+    let n = count-gives (headerOf (r .channel) 0 false) (r .identity) message (t .1) in
+    let f = passed (ltb (v .clock .«last_block») (v .limits .«startup_until_block»)) 21 _ (t .2) in
+    let k = passed (ltb stop (heldUntil (v .limits) (r .«deadline_ms»))) 23 (granted (t .0) (freeEcho (v .echoes) (v .clock .«last_ms»))) (f .1) in
+    let x = granted-gives (t .0) (freeEcho (v .echoes) (v .clock .«last_ms»)) g (k .1) in
+    record {
+      events = leb-false _ _ (a .0);
+      due = leb-false _ _ (b .0);
+      some-octets = not-zero (length message) (c .0);
+      room = d .0;
+      most-octets = n .0;
+      channel = n .1;
+      identity = n .2;
+      frames = sym (x .0) ∙ n .3;
+      usable = ltb-false _ _ (f .0);
+      fits = ltb-false _ _ (k .0);
+      echo = x .1;
+    }
+
+-- identities that are the same as one are the same as the other
+same-as : (a b c : MobileIdentity) → same a b ≡ true → same b c ≡ same a c
+unfolding same
+same-as a b c e =
+    let q = both (eqb (typeOf a) (typeOf b)) (eqb (valueOf a) (valueOf b)) e in
+    rw (eqb-true (typeOf a) (typeOf b) (q .0), eqb-true (valueOf a) (valueOf b) (q .1))
+
+-- the transfer that a granted request begins, in a sender without one to its identity
+module _ (v w : View) (r : Request) (message : List ℕ) (g : Grant) (p : Passes v r message g) (h : Sound w) where
+  abbrev parcel : Parcel
+  parcel = parcelOf r message (g .frames) (lowestN (w .transfers)) (w .«next_token»)
+
+  accepted-newcomer : w .limits ≡ v .limits → w .clock ≡ v .clock → g .echo < 128 → getD (w .echoes .«echo_until_ms») (g .echo) 0 ≡ heldUntil (w .limits) (r .«deadline_ms») → w .«next_token» < stop
+      → All (λ x. same (r .identity) (x .parcel .identity) ≡ false) (w .transfers) → All (λ x. overdue (w .clock) x ≡ false → x .echo ≢ g .echo) (w .transfers)
+      → length (w .transfers) < w .limits .capacity → length (w .transfers) + length (w .events) < 2 * w .limits .capacity → Newcomer w parcel (g .echo)
+  accepted-newcomer el ec low held next ids unheld a b =
+      let most = h .most-capacity in
+      let n = lowest-free 128 0 (w .transfers) (λ j m. absurd (omega arith)) (omega arith) in
+      let s : lowestN (w .transfers) ≤ length (w .transfers) = n .0 in
+      record {
+        accepted = record { identity = p .identity; channel = p .channel; some-octets = p .some-octets; most-octets = p .most-octets; frames = p .frames };
+        low = low;
+        fits = rw el (p .fits);
+        held = held;
+        place = omega arith;
+        usable = rw (el, ec) (p .usable);
+        owner = omega arith;
+        counter = next;
+        others = all-map apart (all-both (all-both ids unheld) (all-both (n .1) (h .transfers)));
+        live = a;
+        accounted = b;
+      }
+    where
+      apart : (x : Transfer)
+          → ((same (r .identity) (x .parcel .identity) ≡ false) × (overdue (w .clock) x ≡ false → x .echo ≢ g .echo)) × ((lowestFrom 128 0 (w .transfers) ≢ x .parcel .n) × Live (w .limits) (w .clock) (w .echoes) (w .«next_token») x)
+          → Unlike (w .clock) parcel (g .echo) x
+      apart x k = let o = k .1 .1 .owner in record { identity = k .0 .0; place = k .1 .0; owner = λ e. absurd (omega arith); other = k .0 .1 }
+
+  accepted-begins : Newcomer w parcel (g .echo) → Sound (kept (tokenTaken w) (begun parcel (g .echo) (w .«next_token»)))
+  accepted-begins n = added-kept w parcel (g .echo) n h
+
+-- what passes leaves a Sound sender
+pub accepts-kept : (v : View) (m : Lent) (r : Request) (message : List ℕ) (g : Grant) → Passes v r message g → v .«next_token» < stop → Sound v → Sound (accepts v m r message g .sender)
+unfolding accepts
+accepts-kept v m r message g p next h =
+    seek-cases {X = View} (λ (w : View). Sound (kept (tokenTaken w) (begun (parcelOf r message (g .frames) (lowestN (w .transfers)) (v .«next_token»)) (g .echo) (v .«next_token»)))) (addressed (r .identity)) (u .transfers) u (cancelAt u) none-replaced one-replaced
+  where
+    until : ℕ
+    until = heldUntil (v .limits) (r .«deadline_ms»)
+
+    u : View
+    u = withEchoes v (hold (v .echoes) (g .echo) until)
+
+    sound : Sound u
+    sound = hold-kept v (g .echo) until (p .echo) h
+
+    low : g .echo < 128
+    low = free-now (v .echoes) (h .echoes) (h .next-echo) (v .clock .«last_ms») (p .echo) .0
+
+    unheld : All (λ x. overdue (v .clock) x ≡ false → x .echo ≢ g .echo) (v .transfers)
+    unheld = free-unheld v (p .echo) h
+
+    held : getD (hold (v .echoes) (g .echo) until .«echo_until_ms») (g .echo) 0 ≡ until
+    held = held-after (v .echoes) (h .echoes) (g .echo) until low
+
+    room : (b : Bool) → any (addressed (r .identity)) (v .transfers) ≡ b → (not b && leb (v .limits .capacity) (length (v .transfers))) ≡ false → All (λ x. addressed (r .identity) x ≡ false) (v .transfers) → length (v .transfers) < v .limits .capacity
+    room true e q n = some-all (λ x a b. let z : _≡_ {A = ℕ} 0 1 = cc in absurd (omega arith)) (any-true (addressed (r .identity)) (v .transfers) e) n
+    room false e q n = leb-false _ _ q
+
+    none-replaced : All (λ x. addressed (r .identity) x ≡ false) (v .transfers) → Sound (kept (tokenTaken u) (begun (parcelOf r message (g .frames) (lowestN (v .transfers)) (v .«next_token»)) (g .echo) (v .«next_token»)))
+    none-replaced n =
+        let lt = room (any (addressed (r .identity)) (v .transfers)) refl (p .room) n in
+        let ev = p .events in
+        accepted-begins v u r message g p sound
+        (accepted-newcomer v u r message g p sound refl refl low held next (all-map (λ x q. same-sym (r .identity) (x .parcel .identity) ∙ q) n) unheld lt (omega arith))
+
+    one-replaced : (i : ℕ) → i < length (v .transfers) → addressed (r .identity) (getD (v .transfers) i blankTransfer) ≡ true
+        → Sound (kept (tokenTaken (cancelAt u i (getD (v .transfers) i blankTransfer))) (begun (parcelOf r message (g .frames) (lowestN (removeAt i (v .transfers))) (v .«next_token»)) (g .echo) (v .«next_token»)))
+    one-replaced i lt t =
+        let l = v .transfers in
+        let x = getD (v .transfers) i blankTransfer in
+        let n : length (v .transfers) ≡ suc (length (removeAt i (v .transfers))) = length-removed (v .transfers) i blankTransfer lt in
+        let o : length (pushBack (v .events) (Cancelled (getD (v .transfers) i blankTransfer .parcel .completion))) ≡ suc (length (v .events)) = length-back (v .events) _ in
+        let ev = p .events in
+        let lv = h .live in
+        let s : Sound (cancelAt u i x) = cancel-kept u i lt sound in
+        accepted-begins v (cancelAt u i x) r message g p s
+        (accepted-newcomer v (cancelAt u i x) r message g p s refl refl low held next
+        (all-map (λ y d. same-as (x .parcel .identity) (r .identity) (y .parcel .identity) t ∙ d .identity) (pairs-at l i blankTransfer lt (different-sym (v .clock)) (h .different))) (all-removed l i blankTransfer lt unheld)
+        (omega arith) (omega arith))
+
+-- `enqueue`
+pub enqueue-call-kept : (v : View) (m : Lent) (r : Request) (message : List ℕ) (block now : ℕ) → Sound v → Sound (enqueueOf v m r message block now .sender)
+unfolding enqueueOf
+enqueue-call-kept v m r message block now h =
+    goes-cases Sound v m (admitted v m block now) (λ w. goesOn w m (grantOf w r message) (λ g. accepts w m r message g)) h
+    (λ w e. let s = admitted-kept v m block now e h in
+    let n = admitted-tokens v m block now e in
+    goes-cases Sound w m (grantOf w r message) (λ g. accepts w m r message g) s (λ g q. accepts-kept w m r message g (grant-passes w r message q) (omega arith) s))
+
+-- ---- submitted
+
+submitted-at-kept : (v : View) (m : Lent) (t : FrameToken) → Sound v → Sound (submittedAt v m t .sender)
+unfolding submittedAt
+submitted-at-kept v m t h =
+    cond-cases {X = Out Unit} P (isSelected t (v .selected)) (seek (ofGeneration (t .generation)) (v .transfers) (refusal 24 v m) found) (refusal 24 v m)
+    (λ e. seek-cases {X = Out Unit} P (ofGeneration (t .generation)) (v .transfers) (refusal 24 v m) found (λ n. h) at-place) (λ e. h)
+  where
+    P : Out Unit → Type 0
+    P o = Sound (o .sender)
+
+    found : ℕ → Transfer → Out Unit
+    found place x = cond (isReady x && eqb (front (x .sets .queue)) (t .frame)) (handedIn v m t place x) (refusal 24 v m)
+
+    at-place : (i : ℕ) → i < length (v .transfers) → ofGeneration (t .generation) (getD (v .transfers) i blankTransfer) ≡ true → P (found i (getD (v .transfers) i blankTransfer))
+    at-place i lt g =
+        let x = getD (v .transfers) i blankTransfer in
+        cond-cases {X = Out Unit} P (isReady x && eqb (front (x .sets .queue)) (t .frame)) (handedIn v m t i x) (refusal 24 v m)
+        (λ e. let q = both (isReady x) (eqb (front (x .sets .queue)) (t .frame)) e in
+        changed-back-unselected v i (inFlight (t .frame) (v .clock .«last_block») x) lt refl refl refl
+        (in-flight-live x (all-at (v .transfers) i blankTransfer lt (h .transfers)) (t .frame) (q .0) (sym (eqb-true (front (x .sets .queue)) (t .frame) (q .1)))) h) (λ e. h)
+
+-- `submitted`
+pub submitted-call-kept : (v : View) (m : Lent) (t : FrameToken) (block now : ℕ) → Sound v → Sound (submittedOf v m t block now .sender)
+unfolding submittedOf
+submitted-call-kept v m t block now h =
+    goes-cases Sound v m (refuse (short m) 16 (ticked v block now)) (λ w. submittedAt w m t) h
+    (λ w e. submitted-at-kept w m t (ticked-kept v block now (passed (short m) 16 (ticked v block now) e .1) h))

@@ -1,0 +1,596 @@
+-- Lives of small senders, call by call, settled by one computed test each: the definitions say what the Rust says of the same
+-- calls. Every answer is the Rust's; where it has none, for refusals 16 and 18 and for tokens that no call gave, it is 01's.
+-- Assumes nothing.
+use mathlib.Core.Path.{_≡_, refl}
+use mathlib.Core.Bool.{Bool, true, false}
+use mathlib.Core.List.{List, [], _∷_, _++_, map}
+use mathlib.Core.Option.{Option, none, some}
+use Prim.Native.Nat.{ℕ, _+_}
+use lib.Count.{ones, onesIn, trailingZeros}
+use lib.ListN.{take, drop, getD, replicate}
+use Rattle.field.specs.Bits.{bit, bits, value, bitsOf, octets}
+use Rattle.field.specs.Layout.{layout, upTo, anySet}
+use Rattle.rach.specs.Identity.{same, inRange, encodable}
+use Rattle.rach.specs.declared.MobileIdentity.{MobileIdentity}
+use Rattle.rach.specs.declared.MobileIdentity.the-variants.{Tmsi20}
+use Rattle.spach.specs.declared.Channel.{Channel}
+use Rattle.spach.specs.declared.Channel.the-variants.{Arch, Smsch, Pch}
+use Rattle.spach.specs.Refusal.{Outcome, gives, refuses, After}
+use Rattle.arq.specs.Frame.{packed, beginFrame, continueFrame}
+use Rattle.arq.specs.Encode.{encodeOf}
+use Rattle.arq.specs.Cut.{countOf, frameOf}
+use Rattle.transfer.specs.declared.FrameToken.{FrameToken}
+use Rattle.transfer.specs.declared.Event.{Event}
+use Rattle.transfer.specs.declared.Event.the-variants as events
+use Rattle.transfer.specs.declared.Since.{Since}
+use Rattle.transfer.specs.declared.Since.the-variants.{Never, Block}
+use Rattle.transfer.specs.declared.Transfer.{Transfer}
+use Rattle.transfer.specs.declared.PreparedFrame.{PreparedFrame}
+use Rattle.transfer.specs.declared.Confirmation.{Confirmation}
+use Rattle.transfer.specs.declared.Confirmation.the-variants as confirmations
+use Rattle.transfer.specs.declared.CompletionAnswer.{CompletionAnswer}
+use Rattle.transfer.specs.declared.CompletionAnswer.the-variants as completions
+use Rattle.transfer.specs.declared.Addressee.{Addressee}
+use Rattle.transfer.specs.declared.Addressee.the-variants as addressees
+use Rattle.transfer.specs.declared.NextEvent.{NextEvent}
+use Rattle.transfer.specs.declared.NextEvent.the-variants as nexts
+use Rattle.transfer.specs.Queue.{framesOf}
+use Rattle.transfer.specs.State.{View, Lent, Out, fresh, newOf}
+use Rattle.transfer.specs.Echo.{freeEcho}
+use Rattle.transfer.specs.Transfer.{doneOf, settleOf}
+use Rattle.transfer.specs.Advance.{fateOf, step, walk, walked, advanceOf}
+use Rattle.transfer.specs.Enqueue.{grantOf, accepts, enqueueOf}
+use Rattle.transfer.specs.Prepare.{packedOf, choose, prepareOf, hasEchoOf, interruptOf, prioritizeAt, preparePrioritizedOf}
+use Rattle.transfer.specs.Submitted.{submittedAt, submittedOf, submittedMessageOf, transmittedAt, transmittedOf}
+use Rattle.transfer.specs.Status.{statusAt, statusOf}
+use Rattle.transfer.specs.Cancel.{cancelOf, cancelTransactionOf, cancelAllOf}
+use Rattle.transfer.specs.Refresh.{queueWaiting, oldest, serveOldest, refreshWaitingOf}
+use Rattle.transfer.specs.Numbers.{refusalOf}
+use Rattle.transfer.specs.Queries.{canEnqueueOf, identityForEchoOf, radioActiveOf, readyOf, containsOf, popEventOf, pendingOf}
+
+-- ---- calls and answers
+
+data Call : Type 0 where
+  enqueue : MobileIdentity → Channel → (message : List ℕ) → (completion deadline block now : ℕ) → Call
+  advance prepare refresh canEnqueue : (block now : ℕ) → Call
+  prioritize interrupt : (echo block now : ℕ) → Call
+  submitted transmitted : (generation submission frame block now : ℕ) → Call
+  submittedMessage : (generation submission frame : ℕ) → Call
+  status : (echo map block now : ℕ) → Call
+  cancel contains : MobileIdentity → Call
+  cancelTransaction : (owner : ℕ) → Call
+  cancelAll pop radioActive ready pending : Call
+  hasEcho identityForEcho : (echo : ℕ) → Call
+  -- from here on so many octets and words are lent
+  lend : (octets words : ℕ) → Call
+  -- no calls: completions in the order of the list; the queue of the transfer of a place in it; until when an echo is held; lent octets and
+  -- words; the state
+  order state : Call
+  queue : (place : ℕ) → Call
+  held : (echo : ℕ) → Call
+  stored : (offset length : ℕ) → Call
+  word : (place : ℕ) → Call
+
+data Line : Type 0 where
+  refused : (number : ℕ) → Line
+  done nothing unknown : Line
+  answer confirmed : Bool → Line
+  owner number : ℕ → Line
+  numbers : List ℕ → Line
+  to : MobileIdentity → Line
+  frame : (generation submission frame echo : ℕ) → (octets : List ℕ) → Line
+  -- 0 Complete, 1 Expired, 2 Cancelled; a Failed one has the number of its error
+  event : (kind completion : ℕ) → Line
+  -- of each transfer: completion, n, octets, frames, owner, echo, generation, queue, in flight, transmitted, observed, status, last progress,
+  -- last frame and waiting since (each a block and 1, or 0), deadline; the events; the selected token and echo; next echo, last block, last ms,
+  -- next token
+  whole : (transfers : List (List ℕ)) → (events selected rest : List ℕ) → Line
+
+-- ---- what they come to
+
+abbrev outcome : {A : Type 0} → (A → Line) → Outcome A → Line
+outcome f (gives a) = f a
+outcome f (refuses n) = refused n
+
+abbrev prepared : Option PreparedFrame → Line
+prepared none = nothing
+prepared (some f) = frame (f .token .generation .0) (f .token .submission .0) (f .token .frame) (f .«partial_echo») (f .octets)
+
+abbrev confirmation : Confirmation → Line
+confirmation confirmations.NotFound = unknown
+confirmation (confirmations.Found b) = confirmed b
+
+abbrev completion : CompletionAnswer → Line
+completion completions.Nothing = nothing
+completion (completions.Completion c) = number c
+
+abbrev addressee : Addressee → Line
+addressee addressees.Nothing = nothing
+addressee (addressees.Identity i) = to i
+
+abbrev kindOf : Event → ℕ × ℕ
+kindOf (events.Complete c) = (0, c)
+kindOf (events.Expired c) = (1, c)
+kindOf (events.Cancelled c) = (2, c)
+kindOf (events.Failed c e) = (refusalOf e, c)
+
+abbrev nextEvent : NextEvent → Line
+nextEvent nexts.Nothing = nothing
+nextEvent (nexts.Event e) = let k = kindOf e in event (k .0) (k .1)
+
+abbrev sinceNumber : Since → ℕ
+sinceNumber Never = 0
+sinceNumber (Block b) = b + 1
+
+abbrev transferNumbers : Transfer → List ℕ
+transferNumbers x =
+    x .parcel .completion
+    ∷ x .parcel .n
+    ∷ x .parcel .octets
+    ∷ x .parcel .frames
+    ∷ x .parcel .owner .0
+    ∷ x .echo
+    ∷ x .generation .0
+    ∷ x .sets .queue
+    ∷ x .sets .«in_flight»
+    ∷ x .sets .transmitted
+    ∷ x .sets .observed
+    ∷ bit (x .sets .«received_status»)
+    ∷ sinceNumber (x .blocks .«last_progress»)
+    ∷ sinceNumber (x .blocks .«last_frame»)
+    ∷ sinceNumber (x .blocks .«waiting_since»)
+    ∷ x .parcel .«deadline_ms»
+    ∷ []
+
+abbrev eventNumbers : List Event → List ℕ
+eventNumbers [] = []
+eventNumbers (e ∷ l) = let k = kindOf e in k .0 ∷ k .1 ∷ eventNumbers l
+
+abbrev selectedNumbers : Option PreparedFrame → List ℕ
+selectedNumbers none = []
+selectedNumbers (some f) = f .token .generation .0 ∷ f .token .submission .0 ∷ f .token .frame ∷ f .«partial_echo» ∷ []
+
+abbrev wholeOf : View → Line
+wholeOf v = whole (map transferNumbers (v .transfers)) (eventNumbers (v .events)) (selectedNumbers (v .selected)) (v .echoes .«next_echo» ∷ v .clock .«last_block» ∷ v .clock .«last_ms» ∷ v .«next_token» ∷ [])
+
+abbrev queueAt : List Transfer → ℕ → List ℕ
+queueAt [] k = []
+queueAt (x ∷ l) k = getD (map (λ y. framesOf (y .sets .queue)) (x ∷ l)) k []
+
+-- ---- a life: each call gets the sender and the lent memory that the one before it left
+
+record Step : Type 0 where
+  line : Line
+  sender : View
+  lent : Lent
+
+abbrev leaves : {A : Type 0} → Lent → (A → Line) → After A View → Step
+leaves m f a = record { line = outcome f (a .outcome); sender = a .state; lent = m }
+
+abbrev writes : {A : Type 0} → (A → Line) → Out A → Step
+writes f o = record { line = outcome f (o .outcome); sender = o .sender; lent = o .lent }
+
+abbrev says : Line → View → Lent → Step
+says l v m = record { line = l; sender = v; lent = m }
+
+abbrev lends : ℕ → ℕ → Lent
+lends octs ws = record { octets = replicate octs 0; words = replicate ws 0 }
+
+abbrev tokenOf : ℕ → ℕ → ℕ → FrameToken
+tokenOf g s k = record { generation = record { 0 = g }; submission = record { 0 = s }; frame = k }
+
+abbrev call : View → Lent → Call → Step
+call v m (enqueue i c message comp deadline b now) = writes (λ t. owner (t .0)) (enqueueOf v m (record { identity = i; channel = c; completion = comp; «deadline_ms» = deadline }) message b now)
+call v m (advance b now) = leaves m (λ u. done) (advanceOf v m b now)
+call v m (prepare b now) = leaves m prepared (prepareOf v m b now)
+call v m (refresh b now) = leaves m (λ u. done) (refreshWaitingOf v m b now)
+call v m (canEnqueue b now) = says (answer (canEnqueueOf v b now)) v m
+call v m (prioritize e b now) = leaves m prepared (preparePrioritizedOf v m e b now)
+call v m (interrupt e b now) = leaves m answer (interruptOf v m e b now)
+call v m (submitted g s k b now) = writes (λ u. done) (submittedOf v m (tokenOf g s k) b now)
+call v m (transmitted g s k b now) = leaves m confirmation (transmittedOf v m (tokenOf g s k) b now)
+call v m (submittedMessage g s k) = says (completion (submittedMessageOf v (tokenOf g s k))) v m
+call v m (status e map-bits b now) = leaves m answer (statusOf v m (record { «partial_echo» = e; «received_frames» = map-bits }) b now)
+call v m (cancel i) = leaves m answer (cancelOf v i)
+call v m (contains i) = says (answer (containsOf v i)) v m
+call v m (cancelTransaction t) = leaves m answer (cancelTransactionOf v (record { 0 = t }))
+call v m cancelAll = says done (cancelAllOf v) m
+call v m pop = leaves m nextEvent (popEventOf v)
+call v m radioActive = says (answer (radioActiveOf v)) v m
+call v m ready = says (answer (readyOf v)) v m
+call v m pending = says (number (pendingOf v)) v m
+call v m (hasEcho e) = says (answer (hasEchoOf v e)) v m
+call v m (identityForEcho e) = says (addressee (identityForEchoOf v e)) v m
+call v m (lend octs ws) = says done v (lends octs ws)
+call v m order = says (numbers (map (λ x. x .parcel .completion) (v .transfers))) v m
+call v m state = says (wholeOf v) v m
+call v m (queue k) = says (numbers (queueAt (v .transfers) k)) v m
+call v m (held e) = says (number (getD (v .echoes .«echo_until_ms») e 0)) v m
+call v m (stored o n) = says (numbers (take n (drop o (m .octets)))) v m
+call v m (word k) = says (number (getD (m .words) k 0)) v m
+
+abbrev linesOf : View → Lent → List (Call × Line) → List Line
+linesOf v m [] = []
+linesOf v m (c ∷ l) = let s = call v m (c .0) in s .line ∷ linesOf (s .sender) (s .lent) l
+
+-- a life from a sender on, with as much lent as is needed: each call and its answer
+abbrev Lives : View → List (Call × Line) → Type 0
+Lives v l = linesOf v (lends 32640 3456) l ≡ map (λ c. c .1) l
+
+-- what 127 transfers leave in a fresh sender that were enqueued with this deadline, and cancelled: echo 127 alone is free
+abbrev crowded : ℕ → View → View
+crowded deadline v = record {
+  limits = v .limits;
+  clock = v .clock;
+  transfers = [];
+  events = [];
+  echoes = record { «echo_until_ms» = replicate 127 (deadline + v .limits .«echo_guard_ms») ++ 0 ∷ []; «next_echo» = 127 };
+  selected = none;
+  «next_token» = v .«next_token» + 127;
+}
+
+-- ---- lives
+
+-- a one-frame order from `enqueue` to Complete: one token for the transfer, one for its submission
+one-frame : List (Call × Line)
+one-frame =
+    (canEnqueue 0 0, answer true)
+    ∷ (enqueue (Tmsi20 1) Arch (65 ∷ []) 7 5000 10 100, owner 100)
+    ∷ (state, whole ((7 ∷ 0 ∷ 1 ∷ 1 ∷ 100 ∷ 0 ∷ 100 ∷ 1 ∷ 0 ∷ 0 ∷ 0 ∷ 0 ∷ 0 ∷ 0 ∷ 0 ∷ 5000 ∷ []) ∷ []) [] [] (1 ∷ 10 ∷ 100 ∷ 101 ∷ []))
+    ∷ (prepare 10 100, frame 100 101 0 0 (0x61 ∷ 0x40 ∷ 0x00 ∷ 0x00 ∷ 0x20 ∷ 0x08 ∷ 0x05 ∷ 0x04 ∷ replicate 6 0))
+    ∷ (prepare 11 100, frame 100 101 0 0 (0x61 ∷ 0x40 ∷ 0x00 ∷ 0x00 ∷ 0x20 ∷ 0x08 ∷ 0x05 ∷ 0x04 ∷ replicate 6 0))
+    ∷ (held 0, number 6000)
+    ∷ (held 1, number 0)
+    ∷ (submitted 100 101 0 12 120, done)
+    ∷ (submitted 100 101 0 12 120, refused 24)
+    ∷ (submittedMessage 100 101 0, number 7)
+    ∷ (word 0, number 101)
+    ∷ (prepare 13 130, nothing)
+    ∷ (transmitted 100 101 1 14 140, unknown)
+    ∷ (transmitted 100 101 0 14 140, confirmed true)
+    ∷ (state, whole ((7 ∷ 0 ∷ 1 ∷ 1 ∷ 100 ∷ 0 ∷ 100 ∷ 0 ∷ 0 ∷ 1 ∷ 0 ∷ 0 ∷ 13 ∷ 13 ∷ 15 ∷ 5000 ∷ []) ∷ []) [] [] (1 ∷ 14 ∷ 140 ∷ 102 ∷ []))
+    ∷ (status 0 0 20 200, answer true)
+    ∷ (state, whole [] (0 ∷ 7 ∷ []) [] (1 ∷ 20 ∷ 200 ∷ 102 ∷ []))
+    ∷ (pop, event 0 7)
+    ∷ (pop, nothing)
+    ∷ (prepare 21 200, nothing)
+    ∷ []
+
+-- three frames; a status after two of them is kept until nothing is in flight, and then queues frame 2 again
+three-frames : List (Call × Line)
+three-frames =
+    (enqueue (Tmsi20 1) Smsch (replicate 17 65) 1 5000 10 100, owner 100)
+    ∷ (prepare 10 100, frame 100 101 0 0 (0x81 ∷ 0x40 ∷ 0x00 ∷ 0x00 ∷ 0x20 ∷ 0x00 ∷ 0x45 ∷ 0x05 ∷ 0x05 ∷ 0x05 ∷ 0x05 ∷ 0x05 ∷ 0x05 ∷ 0x00 ∷ []))
+    ∷ (submitted 100 101 0 10 100, done)
+    ∷ (prepare 11 100, frame 100 102 1 0 (0x81 ∷ 0x80 ∷ 0x00 ∷ 0x02 ∷ 0x82 ∷ 0x82 ∷ 0x82 ∷ 0x82 ∷ 0x82 ∷ 0x82 ∷ 0x82 ∷ 0x82 ∷ 0x82 ∷ 0x80 ∷ []))
+    ∷ (submitted 100 102 1 11 100, done)
+    ∷ (status 0 0xfc000003 12 100, answer true)
+    ∷ (state, whole ((1 ∷ 0 ∷ 17 ∷ 3 ∷ 100 ∷ 0 ∷ 100 ∷ 4 ∷ 3 ∷ 0 ∷ 2 ∷ 1 ∷ 13 ∷ 12 ∷ 0 ∷ 5000 ∷ []) ∷ []) [] [] (1 ∷ 12 ∷ 100 ∷ 103 ∷ []))
+    ∷ (prepare 13 100, frame 100 103 2 0 (0x81 ∷ 0x80 ∷ 0x01 ∷ 0x05 ∷ replicate 10 0))
+    ∷ (submitted 100 103 2 13 100, done)
+    ∷ (submittedMessage 100 103 2, number 1)
+    ∷ (transmitted 100 101 0 14 100, confirmed false)
+    ∷ (transmitted 100 102 1 14 100, confirmed false)
+    ∷ (transmitted 100 103 2 15 100, confirmed true)
+    ∷ (queue 0, numbers (2 ∷ []))
+    ∷ (state, whole ((1 ∷ 0 ∷ 17 ∷ 3 ∷ 100 ∷ 0 ∷ 100 ∷ 4 ∷ 0 ∷ 7 ∷ 2 ∷ 0 ∷ 14 ∷ 14 ∷ 0 ∷ 5000 ∷ []) ∷ []) [] [] (1 ∷ 15 ∷ 100 ∷ 104 ∷ []))
+    ∷ (prepare 15 100, frame 100 104 2 0 (0x81 ∷ 0x80 ∷ 0x01 ∷ 0x05 ∷ replicate 10 0))
+    ∷ (submitted 100 104 2 15 100, done)
+    ∷ (transmitted 100 104 2 16 100, confirmed true)
+    ∷ (status 0 3 17 100, answer true)
+    ∷ (pop, event 0 1)
+    ∷ []
+
+-- 63 blocks since progress: no restart; 64: a restart, under the next token and echo
+restarts : List (Call × Line)
+restarts =
+    (enqueue (Tmsi20 1) Arch (replicate 17 65) 1 5000 10 100, owner 100)
+    ∷ (prepare 10 100, frame 100 101 0 0 (0x61 ∷ 0x40 ∷ 0x00 ∷ 0x00 ∷ 0x20 ∷ 0x00 ∷ 0x45 ∷ 0x05 ∷ 0x05 ∷ 0x05 ∷ 0x05 ∷ 0x05 ∷ 0x05 ∷ 0x00 ∷ []))
+    ∷ (submitted 100 101 0 10 100, done)
+    ∷ (advance 73 100, done)
+    ∷ (state, whole ((1 ∷ 0 ∷ 17 ∷ 3 ∷ 100 ∷ 0 ∷ 100 ∷ 6 ∷ 1 ∷ 0 ∷ 0 ∷ 0 ∷ 11 ∷ 11 ∷ 0 ∷ 5000 ∷ []) ∷ []) [] [] (1 ∷ 73 ∷ 100 ∷ 102 ∷ []))
+    ∷ (advance 74 100, done)
+    ∷ (state, whole ((1 ∷ 0 ∷ 17 ∷ 3 ∷ 100 ∷ 1 ∷ 102 ∷ 7 ∷ 0 ∷ 0 ∷ 0 ∷ 0 ∷ 0 ∷ 0 ∷ 0 ∷ 5000 ∷ []) ∷ []) [] [] (2 ∷ 74 ∷ 100 ∷ 103 ∷ []))
+    ∷ (held 0, number 5000)
+    ∷ (held 1, number 5000)
+    ∷ (transmitted 100 101 0 74 100, unknown)
+    ∷ (status 0 0 74 100, answer false)
+    ∷ (status 1 0 74 100, answer false)
+    ∷ (prepare 74 100, frame 102 103 0 1 (0x61 ∷ 0x40 ∷ 0x00 ∷ 0x00 ∷ 0x20 ∷ 0x40 ∷ 0x45 ∷ 0x05 ∷ 0x05 ∷ 0x05 ∷ 0x05 ∷ 0x05 ∷ 0x05 ∷ 0x00 ∷ []))
+    ∷ []
+
+-- waiting since 20, refreshed and sent again at 40: restart at 84, and not at 104
+waits : List (Call × Line)
+waits =
+    (enqueue (Tmsi20 1) Arch (65 ∷ []) 1 5000 10 100, owner 100)
+    ∷ (prepare 10 100, frame 100 101 0 0 (0x61 ∷ 0x40 ∷ 0x00 ∷ 0x00 ∷ 0x20 ∷ 0x08 ∷ 0x05 ∷ 0x04 ∷ replicate 6 0))
+    ∷ (submitted 100 101 0 10 100, done)
+    ∷ (transmitted 100 101 0 20 100, confirmed true)
+    ∷ (refresh 25 100, done)
+    ∷ (queue 0, numbers [])
+    ∷ (refresh 26 100, done)
+    ∷ (queue 0, numbers (0 ∷ []))
+    ∷ (prepare 40 100, frame 100 102 0 0 (0x61 ∷ 0x40 ∷ 0x00 ∷ 0x00 ∷ 0x20 ∷ 0x08 ∷ 0x05 ∷ 0x04 ∷ replicate 6 0))
+    ∷ (submitted 100 102 0 40 100, done)
+    ∷ (transmitted 100 101 0 41 100, unknown)
+    ∷ (transmitted 100 102 0 41 100, confirmed true)
+    ∷ (state, whole ((1 ∷ 0 ∷ 1 ∷ 1 ∷ 100 ∷ 0 ∷ 100 ∷ 0 ∷ 0 ∷ 1 ∷ 0 ∷ 0 ∷ 41 ∷ 41 ∷ 21 ∷ 5000 ∷ []) ∷ []) [] [] (1 ∷ 41 ∷ 100 ∷ 103 ∷ []))
+    ∷ (advance 83 100, done)
+    ∷ (state, whole ((1 ∷ 0 ∷ 1 ∷ 1 ∷ 100 ∷ 0 ∷ 100 ∷ 0 ∷ 0 ∷ 1 ∷ 0 ∷ 0 ∷ 41 ∷ 41 ∷ 21 ∷ 5000 ∷ []) ∷ []) [] [] (1 ∷ 83 ∷ 100 ∷ 103 ∷ []))
+    ∷ (advance 84 100, done)
+    ∷ (state, whole ((1 ∷ 0 ∷ 1 ∷ 1 ∷ 100 ∷ 1 ∷ 103 ∷ 1 ∷ 0 ∷ 0 ∷ 0 ∷ 0 ∷ 0 ∷ 0 ∷ 0 ∷ 5000 ∷ []) ∷ []) [] [] (2 ∷ 84 ∷ 100 ∷ 104 ∷ []))
+    ∷ []
+
+-- 16 blocks since the last frame, with equal ages: of 1 2 3 the last comes first
+equal-ages : List (Call × Line)
+equal-ages =
+    (enqueue (Tmsi20 1) Arch (65 ∷ []) 1 5000 10 100, owner 100)
+    ∷ (enqueue (Tmsi20 2) Arch (66 ∷ []) 2 5000 10 100, owner 101)
+    ∷ (enqueue (Tmsi20 3) Arch (67 ∷ []) 3 5000 10 100, owner 102)
+    ∷ (prepare 10 100, frame 100 103 0 0 (0x61 ∷ 0x40 ∷ 0x00 ∷ 0x00 ∷ 0x20 ∷ 0x08 ∷ 0x05 ∷ 0x04 ∷ replicate 6 0))
+    ∷ (submitted 100 103 0 10 100, done)
+    ∷ (prepare 10 100, frame 101 104 0 1 (0x61 ∷ 0x40 ∷ 0x00 ∷ 0x00 ∷ 0x40 ∷ 0x48 ∷ 0x05 ∷ 0x08 ∷ replicate 6 0))
+    ∷ (submitted 101 104 0 10 100, done)
+    ∷ (prepare 10 100, frame 102 105 0 2 (0x61 ∷ 0x40 ∷ 0x00 ∷ 0x00 ∷ 0x60 ∷ 0x88 ∷ 0x05 ∷ 0x0c ∷ replicate 6 0))
+    ∷ (submitted 102 105 0 10 100, done)
+    ∷ (transmitted 100 103 0 11 100, confirmed true)
+    ∷ (transmitted 101 104 0 11 100, confirmed true)
+    ∷ (transmitted 102 105 0 11 100, confirmed true)
+    ∷ (order, numbers (1 ∷ 2 ∷ 3 ∷ []))
+    ∷ (refresh 25 100, done)
+    ∷ (order, numbers (1 ∷ 2 ∷ 3 ∷ []))
+    ∷ (ready, answer false)
+    ∷ (refresh 26 100, done)
+    ∷ (order, numbers (3 ∷ 1 ∷ 2 ∷ []))
+    ∷ (ready, answer true)
+    ∷ (state, whole ((3 ∷ 2 ∷ 1 ∷ 1 ∷ 102 ∷ 2 ∷ 102 ∷ 1 ∷ 0 ∷ 1 ∷ 0 ∷ 0 ∷ 11 ∷ 11 ∷ 12 ∷ 5000 ∷ []) ∷ (1 ∷ 0 ∷ 1 ∷ 1 ∷ 100 ∷ 0 ∷ 100 ∷ 1 ∷ 0 ∷ 1 ∷ 0 ∷ 0 ∷ 11 ∷ 11 ∷ 12 ∷ 5000 ∷ []) ∷ (2 ∷ 1 ∷ 1 ∷ 1 ∷ 101 ∷ 1 ∷ 101 ∷ 1 ∷ 0 ∷ 1 ∷ 0 ∷ 0 ∷ 11 ∷ 11 ∷ 12 ∷ 5000 ∷ []) ∷ []) [] [] (3 ∷ 26 ∷ 100 ∷ 106 ∷ []))
+    ∷ (prepare 26 100, frame 102 106 0 2 (0x61 ∷ 0x40 ∷ 0x00 ∷ 0x00 ∷ 0x60 ∷ 0x88 ∷ 0x05 ∷ 0x0c ∷ replicate 6 0))
+    ∷ (refresh 27 100, done)
+    ∷ (order, numbers (3 ∷ 1 ∷ 2 ∷ []))
+    ∷ []
+
+-- in 2 3 4 1 the transfer to identity 3 is replaced: 2 4 1 3, and its event is Cancelled
+replacement : List (Call × Line)
+replacement =
+    (enqueue (Tmsi20 2) Arch (66 ∷ []) 2 5000 10 100, owner 100)
+    ∷ (enqueue (Tmsi20 3) Arch (replicate 2 67) 3 5000 10 100, owner 101)
+    ∷ (enqueue (Tmsi20 4) Arch (68 ∷ []) 4 5000 10 100, owner 102)
+    ∷ (enqueue (Tmsi20 1) Arch (65 ∷ []) 1 5000 10 100, owner 103)
+    ∷ (order, numbers (2 ∷ 3 ∷ 4 ∷ 1 ∷ []))
+    ∷ (canEnqueue 10 100, answer false)
+    ∷ (enqueue (Tmsi20 3) Smsch (replicate 3 69) 33 6000 10 100, owner 104)
+    ∷ (order, numbers (2 ∷ 4 ∷ 1 ∷ 33 ∷ []))
+    ∷ (held 1, number 6000)
+    ∷ (held 4, number 7000)
+    ∷ (stored 255 4, numbers (69 ∷ 69 ∷ 69 ∷ 0 ∷ []))
+    ∷ (state, whole ((2 ∷ 0 ∷ 1 ∷ 1 ∷ 100 ∷ 0 ∷ 100 ∷ 1 ∷ 0 ∷ 0 ∷ 0 ∷ 0 ∷ 0 ∷ 0 ∷ 0 ∷ 5000 ∷ []) ∷ (4 ∷ 2 ∷ 1 ∷ 1 ∷ 102 ∷ 2 ∷ 102 ∷ 1 ∷ 0 ∷ 0 ∷ 0 ∷ 0 ∷ 0 ∷ 0 ∷ 0 ∷ 5000 ∷ []) ∷ (1 ∷ 3 ∷ 1 ∷ 1 ∷ 103 ∷ 3 ∷ 103 ∷ 1 ∷ 0 ∷ 0 ∷ 0 ∷ 0 ∷ 0 ∷ 0 ∷ 0 ∷ 5000 ∷ []) ∷ (33 ∷ 1 ∷ 3 ∷ 1 ∷ 104 ∷ 4 ∷ 104 ∷ 1 ∷ 0 ∷ 0 ∷ 0 ∷ 0 ∷ 0 ∷ 0 ∷ 0 ∷ 6000 ∷ []) ∷ []) (2 ∷ 3 ∷ []) [] (5 ∷ 10 ∷ 100 ∷ 105 ∷ []))
+    ∷ (pop, event 2 3)
+    ∷ (pop, nothing)
+    ∷ (cancelTransaction 101, answer false)
+    ∷ (cancelTransaction 104, answer true)
+    ∷ (cancel (Tmsi20 3), answer false)
+    ∷ (cancel (Tmsi20 4), answer true)
+    ∷ (contains (Tmsi20 4), answer false)
+    ∷ (contains (Tmsi20 1), answer true)
+    ∷ (cancelAll, done)
+    ∷ (order, numbers [])
+    ∷ (pop, event 2 33)
+    ∷ (pop, event 2 4)
+    ∷ (pop, event 2 2)
+    ∷ (pop, event 2 1)
+    ∷ (pop, nothing)
+    ∷ (pending, number 0)
+    ∷ []
+
+-- two transfers share the only free echo until `advance`; `interrupt` takes the first in the list
+shared-echo : List (Call × Line)
+shared-echo =
+    (enqueue (Tmsi20 1) Arch (65 ∷ []) 1 10 10 5, owner 227)
+    ∷ (enqueue (Tmsi20 2) Arch (66 ∷ []) 2 500 10 10, owner 228)
+    ∷ (hasEcho 127, answer true)
+    ∷ (identityForEcho 127, to (Tmsi20 1))
+    ∷ (state, whole ((1 ∷ 0 ∷ 1 ∷ 1 ∷ 227 ∷ 127 ∷ 227 ∷ 1 ∷ 0 ∷ 0 ∷ 0 ∷ 0 ∷ 0 ∷ 0 ∷ 0 ∷ 10 ∷ []) ∷ (2 ∷ 1 ∷ 1 ∷ 1 ∷ 228 ∷ 127 ∷ 228 ∷ 1 ∷ 0 ∷ 0 ∷ 0 ∷ 0 ∷ 0 ∷ 0 ∷ 0 ∷ 500 ∷ []) ∷ []) [] [] (0 ∷ 10 ∷ 10 ∷ 229 ∷ []))
+    ∷ (interrupt 127 11 10, answer true)
+    ∷ (state, whole ((2 ∷ 1 ∷ 1 ∷ 1 ∷ 228 ∷ 127 ∷ 228 ∷ 1 ∷ 0 ∷ 0 ∷ 0 ∷ 0 ∷ 0 ∷ 0 ∷ 0 ∷ 500 ∷ []) ∷ []) (1 ∷ 1 ∷ []) [] (0 ∷ 11 ∷ 10 ∷ 229 ∷ []))
+    ∷ (identityForEcho 127, to (Tmsi20 2))
+    ∷ (interrupt 127 11 10, answer true)
+    ∷ (pop, event 1 1)
+    ∷ (pop, event 21 2)
+    ∷ (pop, nothing)
+    ∷ (state, whole [] [] [] (0 ∷ 11 ∷ 10 ∷ 229 ∷ []))
+    ∷ []
+
+-- an unknown echo or frame moves the clock alone, at the deadline too; a late frame may be submitted; at the deadline a transfer expires, even if done
+expires : List (Call × Line)
+expires =
+    (enqueue (Tmsi20 1) Arch (65 ∷ []) 1 50 10 10, owner 100)
+    ∷ (prepare 10 10, frame 100 101 0 0 (0x61 ∷ 0x40 ∷ 0x00 ∷ 0x00 ∷ 0x20 ∷ 0x08 ∷ 0x05 ∷ 0x04 ∷ replicate 6 0))
+    ∷ (interrupt 9 11 50, answer false)
+    ∷ (transmitted 100 101 0 11 50, unknown)
+    ∷ (transmitted 99 101 0 11 50, unknown)
+    ∷ (state, whole ((1 ∷ 0 ∷ 1 ∷ 1 ∷ 100 ∷ 0 ∷ 100 ∷ 1 ∷ 0 ∷ 0 ∷ 0 ∷ 0 ∷ 0 ∷ 0 ∷ 0 ∷ 50 ∷ []) ∷ []) [] (100 ∷ 101 ∷ 0 ∷ 0 ∷ []) (1 ∷ 11 ∷ 50 ∷ 102 ∷ []))
+    ∷ (submitted 100 101 0 12 70, done)
+    ∷ (radioActive, answer true)
+    ∷ (state, whole ((1 ∷ 0 ∷ 1 ∷ 1 ∷ 100 ∷ 0 ∷ 100 ∷ 0 ∷ 1 ∷ 0 ∷ 0 ∷ 0 ∷ 13 ∷ 13 ∷ 0 ∷ 50 ∷ []) ∷ []) [] [] (1 ∷ 12 ∷ 70 ∷ 102 ∷ []))
+    ∷ (transmitted 100 101 0 12 70, confirmed true)
+    ∷ (pop, event 1 1)
+    ∷ (enqueue (Tmsi20 1) Arch (65 ∷ []) 2 100 12 70, owner 102)
+    ∷ (prepare 12 70, frame 102 103 0 1 (0x61 ∷ 0x40 ∷ 0x00 ∷ 0x00 ∷ 0x20 ∷ 0x48 ∷ 0x05 ∷ 0x04 ∷ replicate 6 0))
+    ∷ (submitted 102 103 0 12 70, done)
+    ∷ (transmitted 102 103 0 12 70, confirmed true)
+    ∷ (status 1 0 12 100, answer false)
+    ∷ (state, whole [] (1 ∷ 2 ∷ []) [] (2 ∷ 12 ∷ 100 ∷ 104 ∷ []))
+    ∷ (pop, event 1 2)
+    ∷ (enqueue (Tmsi20 1) Arch (65 ∷ []) 3 200 13 110, owner 104)
+    ∷ (prepare 13 110, frame 104 105 0 2 (0x61 ∷ 0x40 ∷ 0x00 ∷ 0x00 ∷ 0x20 ∷ 0x88 ∷ 0x05 ∷ 0x04 ∷ replicate 6 0))
+    ∷ (submitted 104 105 0 13 110, done)
+    ∷ (status 2 0 14 120, answer true)
+    ∷ (transmitted 104 105 0 15 200, confirmed true)
+    ∷ (pop, event 1 3)
+    ∷ []
+
+-- in 2 3 1 with 2 selected and 1 in flight, 1 comes first, without a frame, and the selection is dropped
+prioritized : List (Call × Line)
+prioritized =
+    (enqueue (Tmsi20 1) Arch (65 ∷ []) 1 5000 10 100, owner 100)
+    ∷ (enqueue (Tmsi20 2) Arch (66 ∷ []) 2 5000 10 100, owner 101)
+    ∷ (enqueue (Tmsi20 3) Arch (67 ∷ []) 3 5000 10 100, owner 102)
+    ∷ (prepare 10 100, frame 100 103 0 0 (0x61 ∷ 0x40 ∷ 0x00 ∷ 0x00 ∷ 0x20 ∷ 0x08 ∷ 0x05 ∷ 0x04 ∷ replicate 6 0))
+    ∷ (submitted 100 103 0 10 100, done)
+    ∷ (order, numbers (2 ∷ 3 ∷ 1 ∷ []))
+    ∷ (prepare 10 100, frame 101 104 0 1 (0x61 ∷ 0x40 ∷ 0x00 ∷ 0x00 ∷ 0x40 ∷ 0x48 ∷ 0x05 ∷ 0x08 ∷ replicate 6 0))
+    ∷ (prioritize 99 10 100, nothing)
+    ∷ (prioritize 1 10 100, frame 101 104 0 1 (0x61 ∷ 0x40 ∷ 0x00 ∷ 0x00 ∷ 0x40 ∷ 0x48 ∷ 0x05 ∷ 0x08 ∷ replicate 6 0))
+    ∷ (order, numbers (2 ∷ 3 ∷ 1 ∷ []))
+    ∷ (prioritize 0 10 100, nothing)
+    ∷ (order, numbers (1 ∷ 2 ∷ 3 ∷ []))
+    ∷ (state, whole ((1 ∷ 0 ∷ 1 ∷ 1 ∷ 100 ∷ 0 ∷ 100 ∷ 0 ∷ 1 ∷ 0 ∷ 0 ∷ 0 ∷ 11 ∷ 11 ∷ 0 ∷ 5000 ∷ []) ∷ (2 ∷ 1 ∷ 1 ∷ 1 ∷ 101 ∷ 1 ∷ 101 ∷ 1 ∷ 0 ∷ 0 ∷ 0 ∷ 0 ∷ 0 ∷ 0 ∷ 0 ∷ 5000 ∷ []) ∷ (3 ∷ 2 ∷ 1 ∷ 1 ∷ 102 ∷ 2 ∷ 102 ∷ 1 ∷ 0 ∷ 0 ∷ 0 ∷ 0 ∷ 0 ∷ 0 ∷ 0 ∷ 5000 ∷ []) ∷ []) [] [] (3 ∷ 10 ∷ 100 ∷ 105 ∷ []))
+    ∷ (submitted 101 104 0 10 100, refused 24)
+    ∷ (prepare 10 100, frame 101 105 0 1 (0x61 ∷ 0x40 ∷ 0x00 ∷ 0x00 ∷ 0x40 ∷ 0x48 ∷ 0x05 ∷ 0x08 ∷ replicate 6 0))
+    ∷ (transmitted 100 103 0 11 100, confirmed true)
+    ∷ (prioritize 0 11 100, frame 100 106 0 0 (0x61 ∷ 0x40 ∷ 0x00 ∷ 0x00 ∷ 0x20 ∷ 0x08 ∷ 0x05 ∷ 0x04 ∷ replicate 6 0))
+    ∷ (order, numbers (1 ∷ 2 ∷ 3 ∷ []))
+    ∷ (state, whole ((1 ∷ 0 ∷ 1 ∷ 1 ∷ 100 ∷ 0 ∷ 100 ∷ 1 ∷ 0 ∷ 1 ∷ 0 ∷ 0 ∷ 11 ∷ 11 ∷ 12 ∷ 5000 ∷ []) ∷ (2 ∷ 1 ∷ 1 ∷ 1 ∷ 101 ∷ 1 ∷ 101 ∷ 1 ∷ 0 ∷ 0 ∷ 0 ∷ 0 ∷ 0 ∷ 0 ∷ 0 ∷ 5000 ∷ []) ∷ (3 ∷ 2 ∷ 1 ∷ 1 ∷ 102 ∷ 2 ∷ 102 ∷ 1 ∷ 0 ∷ 0 ∷ 0 ∷ 0 ∷ 0 ∷ 0 ∷ 0 ∷ 5000 ∷ []) ∷ []) [] (100 ∷ 106 ∷ 0 ∷ 0 ∷ []) (3 ∷ 11 ∷ 100 ∷ 107 ∷ []))
+    ∷ []
+
+-- an interrupted transfer restarts; the frame that was selected is dropped
+interrupted : List (Call × Line)
+interrupted =
+    (enqueue (Tmsi20 1) Arch (65 ∷ []) 1 5000 10 100, owner 100)
+    ∷ (enqueue (Tmsi20 2) Arch (66 ∷ []) 2 5000 10 100, owner 101)
+    ∷ (prepare 10 100, frame 100 102 0 0 (0x61 ∷ 0x40 ∷ 0x00 ∷ 0x00 ∷ 0x20 ∷ 0x08 ∷ 0x05 ∷ 0x04 ∷ replicate 6 0))
+    ∷ (interrupt 0 10 100, answer true)
+    ∷ (order, numbers (1 ∷ 2 ∷ []))
+    ∷ (state, whole ((1 ∷ 0 ∷ 1 ∷ 1 ∷ 100 ∷ 2 ∷ 103 ∷ 1 ∷ 0 ∷ 0 ∷ 0 ∷ 0 ∷ 0 ∷ 0 ∷ 0 ∷ 5000 ∷ []) ∷ (2 ∷ 1 ∷ 1 ∷ 1 ∷ 101 ∷ 1 ∷ 101 ∷ 1 ∷ 0 ∷ 0 ∷ 0 ∷ 0 ∷ 0 ∷ 0 ∷ 0 ∷ 5000 ∷ []) ∷ []) [] [] (3 ∷ 10 ∷ 100 ∷ 104 ∷ []))
+    ∷ (submitted 100 102 0 10 100, refused 24)
+    ∷ (prepare 10 100, frame 103 104 0 2 (0x61 ∷ 0x40 ∷ 0x00 ∷ 0x00 ∷ 0x20 ∷ 0x88 ∷ 0x05 ∷ 0x04 ∷ replicate 6 0))
+    ∷ []
+
+-- with no echo free a restart is a Failed event, and takes no token
+shortage : List (Call × Line)
+shortage =
+    (enqueue (Tmsi20 1) Arch (65 ∷ []) 1 1000 10 5, owner 227)
+    ∷ (prepare 10 5, frame 227 228 0 127 (0x61 ∷ 0x40 ∷ 0x00 ∷ 0x00 ∷ 0x3f ∷ 0xc8 ∷ 0x05 ∷ 0x04 ∷ replicate 6 0))
+    ∷ (canEnqueue 10 5, answer false)
+    ∷ (enqueue (Tmsi20 2) Arch (66 ∷ []) 2 1000 10 5, refused 21)
+    ∷ (interrupt 127 10 6, answer true)
+    ∷ (state, whole [] (21 ∷ 1 ∷ []) [] (0 ∷ 10 ∷ 6 ∷ 229 ∷ []))
+    ∷ (pop, event 21 1)
+    ∷ []
+
+-- a one-frame order that was refreshed and selected is Complete by its status; the selected frame is stale
+answered-again : List (Call × Line)
+answered-again =
+    (enqueue (Tmsi20 1) Arch (65 ∷ []) 1 5000 10 100, owner 100)
+    ∷ (prepare 10 100, frame 100 101 0 0 (0x61 ∷ 0x40 ∷ 0x00 ∷ 0x00 ∷ 0x20 ∷ 0x08 ∷ 0x05 ∷ 0x04 ∷ replicate 6 0))
+    ∷ (submitted 100 101 0 10 100, done)
+    ∷ (transmitted 100 101 0 11 100, confirmed true)
+    ∷ (refresh 26 100, done)
+    ∷ (prepare 26 100, frame 100 102 0 0 (0x61 ∷ 0x40 ∷ 0x00 ∷ 0x00 ∷ 0x20 ∷ 0x08 ∷ 0x05 ∷ 0x04 ∷ replicate 6 0))
+    ∷ (status 0 0 27 100, answer true)
+    ∷ (submitted 100 102 0 27 100, refused 24)
+    ∷ (state, whole [] (0 ∷ 1 ∷ []) [] (1 ∷ 27 ∷ 100 ∷ 103 ∷ []))
+    ∷ (pop, event 0 1)
+    ∷ []
+
+-- where two faults meet: store short 16, before fewer than 512 tokens left 18; `submitted` does not give 18, and 24 leaves the clock moved
+store-short : List (Call × Line)
+store-short =
+    (lend 32639 3456, done)
+    ∷ (enqueue (Tmsi20 1) Arch (65 ∷ []) 1 5000 10 100, refused 16)
+    ∷ (advance 10 100, refused 16)
+    ∷ (prepare 10 100, refused 16)
+    ∷ (prioritize 0 10 100, refused 16)
+    ∷ (interrupt 0 10 100, refused 16)
+    ∷ (submitted 1 2 0 10 100, refused 16)
+    ∷ (transmitted 1 2 0 10 100, refused 16)
+    ∷ (status 0 0 10 100, refused 16)
+    ∷ (refresh 10 100, refused 16)
+    ∷ (state, whole [] [] [] (0 ∷ 0 ∷ 0 ∷ 18446744073709551104 ∷ []))
+    ∷ (lend 32640 3455, done)
+    ∷ (enqueue (Tmsi20 1) Arch (65 ∷ []) 1 5000 10 100, refused 16)
+    ∷ (submitted 1 2 0 10 100, refused 16)
+    ∷ (lend 32640 3456, done)
+    ∷ (enqueue (Tmsi20 1) Arch (65 ∷ []) 1 5000 10 100, refused 18)
+    ∷ (advance 10 100, refused 18)
+    ∷ (prepare 10 100, refused 18)
+    ∷ (prioritize 0 10 100, refused 18)
+    ∷ (interrupt 0 10 100, refused 18)
+    ∷ (transmitted 1 2 0 10 100, refused 18)
+    ∷ (status 0 0 10 100, refused 18)
+    ∷ (refresh 10 100, refused 18)
+    ∷ (state, whole [] [] [] (0 ∷ 0 ∷ 0 ∷ 18446744073709551104 ∷ []))
+    ∷ (submitted 1 2 0 10 100, refused 24)
+    ∷ (state, whole [] [] [] (0 ∷ 10 ∷ 100 ∷ 18446744073709551104 ∷ []))
+    ∷ (submitted 1 2 0 9 100, refused 22)
+    ∷ []
+
+-- `enqueue`: 18, before the clock gone back 22
+tokens-short : List (Call × Line)
+tokens-short =
+    (enqueue (Tmsi20 1) Arch (65 ∷ []) 1 5000 10 100, owner 18446744073709551102)
+    ∷ (enqueue (Tmsi20 2) Arch (65 ∷ []) 2 5000 10 100, owner 18446744073709551103)
+    ∷ (enqueue (Tmsi20 3) Arch (65 ∷ []) 3 5000 9 100, refused 18)
+    ∷ []
+
+-- `enqueue`: 22, either clock; then, at a clock that stays moved, 23, 1, 1, 3, 2, 21, 23, each before the next; then 20, 1, 22, 20
+in-order : List (Call × Line)
+in-order =
+    (advance 10 100, done)
+    ∷ (enqueue (Tmsi20 1) Arch (65 ∷ []) 1 50 9 100, refused 22)
+    ∷ (enqueue (Tmsi20 1) Arch (65 ∷ []) 1 50 10 99, refused 22)
+    ∷ (enqueue (Tmsi20 1) Arch [] 1 100 11 100, refused 23)
+    ∷ (enqueue (Tmsi20 0) Pch [] 1 101 12 100, refused 1)
+    ∷ (enqueue (Tmsi20 0) Pch (replicate 256 65) 1 101 12 100, refused 1)
+    ∷ (enqueue (Tmsi20 0) Pch (replicate 255 65) 1 101 12 100, refused 3)
+    ∷ (enqueue (Tmsi20 0) Arch (replicate 255 65) 1 101 12 100, refused 2)
+    ∷ (enqueue (Tmsi20 1048576) Arch (replicate 255 65) 1 101 12 100, refused 2)
+    ∷ (enqueue (Tmsi20 1) Arch (replicate 255 65) 1 18446744073709551615 19 100, refused 21)
+    ∷ (enqueue (Tmsi20 1) Arch (replicate 255 65) 1 18446744073709550616 20 100, refused 23)
+    ∷ (state, whole [] [] [] (0 ∷ 20 ∷ 100 ∷ 18446744073709550000 ∷ []))
+    ∷ (enqueue (Tmsi20 1) Arch (replicate 255 65) 1 18446744073709550615 20 100, owner 18446744073709550000)
+    ∷ (enqueue (Tmsi20 2) Arch (replicate 256 65) 1 18446744073709550615 20 100, refused 20)
+    ∷ (enqueue (Tmsi20 2) Arch [] 1 18446744073709550615 20 100, refused 1)
+    ∷ (cancelAll, done)
+    ∷ (enqueue (Tmsi20 1) Arch [] 1 100 19 100, refused 22)
+    ∷ (enqueue (Tmsi20 1) Arch [] 1 100 21 100, refused 20)
+    ∷ (state, whole [] (2 ∷ 1 ∷ []) [] (1 ∷ 21 ∷ 100 ∷ 18446744073709550001 ∷ []))
+    ∷ (pop, event 2 1)
+    ∷ []
+
+-- `enqueue`: deadline plus guard over 64 bits 23, before no echo free 21; the transfer that would be replaced stays
+no-echo : List (Call × Line)
+no-echo =
+    (enqueue (Tmsi20 1) Arch (65 ∷ []) 1 5000 10 100, owner 227)
+    ∷ (enqueue (Tmsi20 2) Arch (65 ∷ []) 1 18446744073709550616 10 100, refused 23)
+    ∷ (enqueue (Tmsi20 1) Arch (65 ∷ []) 1 5000 10 100, refused 21)
+    ∷ (state, whole ((1 ∷ 0 ∷ 1 ∷ 1 ∷ 227 ∷ 127 ∷ 227 ∷ 1 ∷ 0 ∷ 0 ∷ 0 ∷ 0 ∷ 0 ∷ 0 ∷ 0 ∷ 5000 ∷ []) ∷ []) [] [] (0 ∷ 10 ∷ 100 ∷ 228 ∷ []))
+    ∷ []
+
+-- ---- the constructor
+
+-- capacity 1 to 128; any other is refused 19
+made : (newOf 0 1000 20 100 ≡ refuses 19) × (newOf 1 1000 20 100 ≡ gives (fresh 1 1000 20 100)) × (newOf 128 1000 20 100 ≡ gives (fresh 128 1000 20 100)) × (newOf 129 1000 20 100 ≡ refuses 19)
+unfolding newOf
+made = (refl, refl, refl, refl)
+
+-- ---- one computed test of each
+
+settled : Lives (fresh 4 1000 0 100) one-frame
+    × Lives (fresh 4 0 0 100) three-frames
+    × Lives (fresh 4 0 0 100) restarts
+    × Lives (fresh 4 0 0 100) waits
+    × Lives (fresh 4 0 0 100) equal-ages
+    × Lives (fresh 4 1000 0 100) replacement
+    × Lives (crowded 1000000 (fresh 2 0 0 100)) shared-echo
+    × Lives (fresh 2 0 0 100) expires
+    × Lives (fresh 4 0 0 100) prioritized
+    × Lives (fresh 4 0 0 100) interrupted
+    × Lives (crowded 1000000 (fresh 2 0 0 100)) shortage
+    × Lives (fresh 2 0 0 100) answered-again
+    × Lives (fresh 1 1000 20 18446744073709551104) store-short
+    × Lives (fresh 2 1000 0 18446744073709551102) tokens-short
+    × Lives (fresh 1 1000 20 18446744073709550000) in-order
+    × Lives (crowded 1000000 (fresh 2 1000 0 100)) no-echo
+unfolding one-frame three-frames restarts waits equal-ages replacement shared-echo expires prioritized interrupted shortage answered-again store-short tokens-short in-order no-echo octets bitsOf bits value layout upTo anySet same inRange encodable packed beginFrame continueFrame encodeOf countOf frameOf ones onesIn trailingZeros framesOf freeEcho doneOf settleOf fateOf step walk walked advanceOf grantOf accepts enqueueOf packedOf choose prepareOf interruptOf prioritizeAt preparePrioritizedOf submittedAt submittedOf submittedMessageOf transmittedAt transmittedOf statusAt statusOf cancelOf cancelTransactionOf cancelAllOf queueWaiting oldest serveOldest refreshWaitingOf canEnqueueOf identityForEchoOf popEventOf
+settled = (refl, refl, refl, refl, refl, refl, refl, refl, refl, refl, refl, refl, refl, refl, refl, refl)

@@ -1,0 +1,17 @@
+pub mod Lists
+pub mod Queue
+pub mod State
+pub mod Echo
+pub mod Transfer
+pub mod Advance
+pub mod Enqueue
+pub mod Prepare
+pub mod Submitted
+pub mod Status
+pub mod Cancel
+pub mod Refresh
+pub mod Queries
+pub mod Numbers
+pub mod Invariant
+pub mod Sought
+pub mod History
