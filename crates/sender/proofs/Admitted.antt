@@ -1,10 +1,9 @@
 -- What the code asks of the numbers first is what the calls' definitions ask, and how a call goes on from there. Assumes nothing.
-use mathlib.Core.Path.{_≡_, refl, sym, ap, subst, _∙_}
+use mathlib.Core.Path.{_≡_, refl, sym, ap, _∙_}
 use mathlib.Core.Bool.{Bool, true, false, cond, _&&_, _||_}
 use mathlib.Core.List.{List, []}
 use mathlib.Core.Option.{Option, none}
 use Prim.Native.Nat.{ℕ, _≤_}
-use native.Mathlib.Omega.{arith}
 use borrow.Author.Tests.{ltb-false}
 use lib.Dec.{eqb, ltb}
 use lib.ListN.{length, getD}
@@ -28,9 +27,9 @@ use Rattle.transfer.specs.Queue.{front}
 use Rattle.transfer.specs.Sought.{placeOf, askedAt}
 use Rattle.transfer.specs.State.{View, Out, refusal, goesOn, withClock, short, ticked, admitted, says, ofEcho, ofGeneration, blankTransfer}
 use Rattle.transfer.specs.Submitted.{isSelected, handedIn, submittedAt}
-use Rattle.transfer.proofs.Asked.{asked-found, any-found}
+use Rattle.transfer.proofs.Asked.{asked-found}
 use Rattle.transfer.proofs.Calls.{admitted-walked-kept}
-use Rattle.transfer.proofs.Kept.{admitted-kept, ticked-kept}
+use Rattle.transfer.proofs.Kept.{neither, admitted-kept, ticked-kept}
 use Rattle.sender.specs.declared.GrantAnswer.{GrantAnswer}
 use Rattle.sender.specs.declared.GrantAnswer.the-variants as grants
 use Rattle.sender.specs.declared.Sender.{Sender}
@@ -39,7 +38,9 @@ use Rattle.sender.specs.declared.Verdict.the-variants.{Accepted, Refused
 use Rattle.sender.specs.Answers.{verdictOf, grantAnswer, told, left}
 use Rattle.sender.specs.Arrays.{viewOf, lent, Fitted, Whole}
 use Rattle.sender.specs.Asked.{isShort, tickOf, admitOf}
+use Rattle.sender.proofs.Found.{held-any}
 use Rattle.sender.proofs.Handed.{walked-past}
+use Rattle.sender.proofs.Slots.{whole-by}
 
 -- ---- the clock moved
 
@@ -65,11 +66,7 @@ clockMoved s block ms = record {
   «next_token» = s .«next_token»;
 }
 
--- a sender is whole whose view is sound
-pub whole-by : (s : Sender) {v : View} → Fitted s → viewOf s ≡ v → Sound v → Whole s
-whole-by s f e h = record { fitted = f; sound = subst Sound (sym e) h }
-
--- so is one with the clock moved
+-- a sender with the clock moved is whole
 pub clock-whole : (s : Sender) (block ms : ℕ) → Whole s → Sound (clocked (viewOf s) block ms) → Whole (clockMoved s block ms)
 unfolding viewOf
 clock-whole s block ms w h = record { fitted = record { pending = w .fitted .pending; waiting = w .fitted .waiting }; sound = h }
@@ -77,14 +74,9 @@ clock-whole s block ms w h = record { fitted = record { pending = w .fitted .pen
 -- ---- what is asked first
 
 -- a refusal before a value is one after it
-refuse-then : {A B : Type 0} (t : Bool) (n : ℕ) (o : Outcome A) (f : A → Outcome B) → refuse t n (andThen o f) ≡ andThen (refuse t n o) f
+pub refuse-then : {A B : Type 0} (t : Bool) (n : ℕ) (o : Outcome A) (f : A → Outcome B) → refuse t n (andThen o f) ≡ andThen (refuse t n o) f
 refuse-then true n o f = refl
 refuse-then false n o f = refl
-
--- neither of two tests holds
-neither : (a b : Bool) → (a || b) ≡ false → (a ≡ false) × (b ≡ false)
-neither true b h = let z : _≡_ {A = ℕ} 0 1 = cc in absurd (omega arith)
-neither false b h = (refl, h)
 
 module _ (v : View) (block ms : ℕ) where
   -- the clock is moved or refused as the numbers say
@@ -117,6 +109,10 @@ pub record Asked (v : View) (octets words : List ℕ) (block ms : ℕ) (r : Verd
 pub asked : (v : View) (octets words : List ℕ) (block ms : ℕ) {lacking : Bool} {w r : Verdict} → lacking ≡ isShort (length octets) (length words)
     → verdictOf w ≡ admitOf lacking (v .«next_token») (v .clock .«last_block») (v .clock .«last_ms») block ms → w ≡ r → Asked v octets words block ms r
 asked v octets words block ms el ew q = record { said = sym (ew ∙ ap (λ (b : Bool). admitOf b (v .«next_token») (v .clock .«last_block») (v .clock .«last_ms») block ms) el) ∙ ap verdictOf q }
+
+-- a sender is let through
+abbrev pub Through : Sender → (octets words : List ℕ) (block ms : ℕ) → Type 0
+Through s octets words block ms = Asked (viewOf s) octets words block ms Accepted
 
 module _ {v : View} {octets words : List ℕ} {block ms : ℕ} where
   -- so a sender is let through or refused
@@ -157,19 +153,29 @@ module _ {v : View} {octets words : List ℕ} {block ms : ℕ} where
       through-kept = admitted-kept v (lent octets words) block ms (admitted-as k) h
 
       -- and after a walk
-      pub through-walked : Sound (walked (clocked v block ms))
+      through-walked : Sound (walked (clocked v block ms))
       through-walked = admitted-walked-kept v (lent octets words) block ms (admitted-as k) h
 
       -- which is the code's
       pub walked-by : {u : View} → u ≡ walk (clocked v block ms) (askedAt 128 (v .transfers)) → u ≡ walked (clocked v block ms)
       walked-by e = e ∙ walked-past (clocked v block ms) through-kept
 
+module _ {s : Sender} {octets words : List ℕ} {block ms : ℕ} (k : Through s octets words block ms) (w : Whole s) where
+  -- with the clock moved it is whole
+  pub through-whole : Whole (clockMoved s block ms)
+  through-whole = clock-whole s block ms w (through-kept k (w .sound))
+
+  -- and after a walk
+  pub walked-whole : {r : Sender} → Fitted r → viewOf r ≡ walk (viewOf (clockMoved s block ms)) (askedAt 128 (viewOf (clockMoved s block ms) .transfers)) → Whole r
+  unfolding viewOf
+  walked-whole f e = whole-by f (walked-by k (w .sound) e) (through-walked k (w .sound))
+
 -- ---- interrupt
 
 module _ (v : View) (echo : ℕ) {r : Place} (e : r ≡ placeOf (ofEcho echo) (v .transfers)) where
   -- whether a transfer has the echo
   echo-held : {b : Bool} → r .held ≡ b → any (ofEcho echo) (v .transfers) ≡ b
-  echo-held q = any-found (ofEcho echo) (v .transfers) ∙ (sym (ap (λ (p : Place). p .held) e) ∙ q)
+  echo-held q = sym (held-any (ofEcho echo) (v .transfers) e) ∙ q
 
   -- none has it
   pub interrupt-none : r .held ≡ false → says false v ≡ interrupted v echo

@@ -1,6 +1,5 @@
--- What a sender is asked: whether a transfer passes a test, how many transfers and events there are, whether an echo is free,
--- and the event that waits longest. Assumes nothing.
-use mathlib.Core.Path.{_≡_, refl, sym, ap, subst, _∙_}
+-- What a sender is asked: whether a transfer can be taken in, and the event that waits longest. Assumes nothing.
+use mathlib.Core.Path.{_≡_, refl, sym}
 use mathlib.Core.Bool.{Bool, true, false, _||_}
 use mathlib.Core.List.{List, [], _∷_, map}
 use mathlib.Core.Option.{none, some}
@@ -8,45 +7,13 @@ use Prim.Native.Nat.{ℕ, zero, suc, _≤_, _<_}
 use native.Mathlib.Omega.{arith}
 use borrow.Author.Tests.{lt-leb, le-leb, lt-ltb, le-ltb}
 use lib.ListN.{length, take, drop, getD}
-use lib.Seq.{length-take-le}
 use Rattle.transfer.specs.declared.Event.{Event}
 use Rattle.transfer.specs.declared.NextEvent.the-variants as nexts
-use Rattle.transfer.specs.declared.Place.{Place}
-use Rattle.transfer.specs.declared.Transfer.{Transfer}
 use Rattle.transfer.specs.Echo.{free, freeEcho}
-use Rattle.transfer.specs.Invariant.{Sound}
 use Rattle.transfer.specs.Lists.{any}
 use Rattle.transfer.specs.Queries.{canEnqueueOf, popFrom, popEventOf}
-use Rattle.transfer.specs.Sought.{placeOf}
 use Rattle.transfer.specs.State.{Echoes, View, withEvents, says}
 use Rattle.transfer.proofs.Around.{free-now, none-free}
-use Rattle.transfer.proofs.Asked.{any-found}
-use Rattle.sender.specs.declared.EventSlot.{EventSlot}
-use Rattle.sender.specs.declared.Sender.{Sender}
-use Rattle.sender.specs.Arrays.{viewOf, Fitted, Whole}
-use Rattle.sender.proofs.Slots.{length-read}
-
--- a sender whose view is a sound one is whole
-pub whole-by : {s : Sender} {v : View} → Fitted s → viewOf s ≡ v → Sound v → Whole s
-whole-by f e h = record { fitted = f; sound = subst Sound (sym e) h }
-
--- ---- a test of the transfers
-
--- some transfer passes exactly if the search finds one
-pub held-any : (test : Transfer → Bool) (l : List Transfer) {r : Place} → r ≡ placeOf test l → r .held ≡ any test l
-held-any test l e = ap (λ (p : Place). p .held) e ∙ sym (any-found test l)
-
--- ---- how many there are
-
--- as many transfers are live as are counted
-pub live-counted : (s : Sender) → length (s .transfers) ≡ 128 → Fitted s → length (viewOf s .transfers) ≡ s .pending
-unfolding viewOf
-live-counted s long h = let low = h .pending in length-take-le (s .pending) (s .transfers) (omega arith)
-
--- as many events wait as are counted
-pub events-counted : (s : Sender) → length (s .events) ≡ 256 → Fitted s → length (viewOf s .events) ≡ s .waiting
-unfolding viewOf
-events-counted s long h = let low = h .waiting in length-read EventSlot Event (λ e. e .event) (s .events) (s .waiting) (omega arith)
 
 -- ---- a free echo
 

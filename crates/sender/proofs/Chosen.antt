@@ -1,13 +1,10 @@
--- Which frame goes out next: the ways out of a choice, and that a transfer put to the front leaves a sound sender. Assumes nothing.
-use mathlib.Core.Path.{_≡_, refl, sym, ap, subst, _∙_}
+-- Which frame goes out next: the ways out of a choice, and of one that puts a transfer first. Assumes nothing.
+use mathlib.Core.Path.{_≡_, refl, sym, ap, _∙_}
 use mathlib.Core.Bool.{Bool, true, false, cond, not}
 use mathlib.Core.List.{List, _∷_}
 use mathlib.Core.Option.{Option, none, some}
-use Prim.Native.Nat.{ℕ, _+_, _*_, _≤_, _<_}
-use native.Mathlib.Omega.{arith}
-use borrow.Author.Tests.{eq-eqb, ne-eqb, ltb-true}
-use lib.Dec.{eqb, ltb}
-use lib.ListN.{length, getD}
+use Prim.Native.Nat.{ℕ}
+use borrow.Author.Tests.{eq-eqb, ne-eqb}
 use Rattle.token.specs.Token.{numberAfter}
 use Rattle.spach.specs.declared.SpachError.{SpachError}
 use Rattle.spach.specs.declared.Verdict.{Verdict}
@@ -19,16 +16,13 @@ use Rattle.arq.specs.Frame.{blankPacked}
 use Rattle.transfer.specs.declared.Place.{Place}
 use Rattle.transfer.specs.declared.PreparedFrame.{PreparedFrame}
 use Rattle.transfer.specs.declared.Transfer.{Transfer}
-use Rattle.transfer.specs.Invariant.{Live, Selected, Sound}
-use Rattle.transfer.specs.Lists.{position, removeAt}
+use Rattle.transfer.specs.Lists.{removeAt}
 use Rattle.transfer.specs.Prepare.{isReady, packedOf, frontOf, selects, chooseFrom, choose, repeated, onlyEcho, prioritized, prioritizeAt}
 use Rattle.transfer.specs.Queue.{front, oneLeft}
 use Rattle.transfer.specs.Sought.{placeOf}
-use Rattle.transfer.specs.State.{View, withTransfers, withSelected, says, seek, ofEcho, blankTransfer}
-use Rattle.transfer.proofs.Alive.{repeated-live, repeated-parcel, repeated-chosen}
-use Rattle.transfer.proofs.Kept.{changed-front}
-use Rattle.transfer.proofs.Listed.{all-at}
+use Rattle.transfer.specs.State.{View, withTransfers, withSelected, says, ofEcho}
 use Rattle.sender.specs.Answers.{told}
+use Rattle.sender.proofs.Found.{seek-found, seek-none}
 
 -- ---- a selection of one echo
 
@@ -79,44 +73,6 @@ module _ (v : View) (x : Transfer) (octets : List ℕ) {k : ℕ} {polling : Bool
       ∙ (ap (λ (j : ℕ). ((gives tt, some (framed x p (v .«next_token») j)), counted v (some (framed x p (v .«next_token») j)) (numberAfter (v .«next_token»)))) ek
       ∙ sym (ap (λ (o : Outcome PackedFrame). told (selects v x o)) (answered-gives blankPacked (frontOf x octets) (front-packed x octets ek ep e) q)))
 
--- ---- a search
-
-module _ {A : Type 0} (test : Transfer → Bool) (l : List Transfer) (nothing : A) (found : ℕ → Transfer → A) {r : Place} (e : r ≡ placeOf test l) where
-  -- one passes
-  pub seek-found : r .held ≡ true → seek test l nothing found ≡ found (r .place) (r .transfer)
-  seek-found h =
-      let t : ltb (position test l) (length l) ≡ true = sym (ap (λ (p : Place). p .held) e) ∙ h in
-      ap (λ (b : Bool). cond b (found (position test l) (getD l (position test l) blankTransfer)) nothing) t ∙ sym (ap (λ (p : Place). found (p .place) (p .transfer)) e)
-
-  -- none passes
-  pub seek-none : r .held ≡ false → seek test l nothing found ≡ nothing
-  seek-none h =
-      let t : ltb (position test l) (length l) ≡ false = sym (ap (λ (p : Place). p .held) e) ∙ h in
-      ap (λ (b : Bool). cond b (found (position test l) (getD l (position test l) blankTransfer)) nothing) t
-
-module _ (v : View) (h : Sound v) (test : Transfer → Bool) {r : Place} (e : r ≡ placeOf test (v .transfers)) (t : r .held ≡ true) where
-  -- the place of the one that passes
-  place-low : position test (v .transfers) < length (v .transfers)
-  place-low = ltb-true (position test (v .transfers)) (length (v .transfers)) (sym (ap (λ (p : Place). p .held) e) ∙ t)
-
-  -- it is in the list
-  pub found-low : r .place < length (v .transfers)
-  found-low = subst (λ (i : ℕ). i < length (v .transfers)) (sym (ap (λ (p : Place). p .place) e)) place-low
-
-  -- what passes is live
-  pub found-live : Live (v .limits) (v .clock) (v .echoes) (v .«next_token») (r .transfer)
-  found-live =
-      subst (Live (v .limits) (v .clock) (v .echoes) (v .«next_token»)) (sym (ap (λ (p : Place). p .transfer) e))
-      (all-at (v .transfers) (position test (v .transfers)) blankTransfer place-low (h .transfers))
-
-  -- its message is in the lent store
-  pub found-room : (n : ℕ) → 32640 ≤ n → 255 * r .transfer .parcel .n + r .transfer .parcel .octets ≤ n
-  found-room n long =
-      let low = found-live .place in
-      let most = found-live .accepted .most-octets in
-      let all = h .most-capacity in
-      omega arith
-
 -- ---- a choice
 
 module _ (v : View) (octets : List ℕ) where
@@ -130,18 +86,16 @@ module _ (v : View) (octets : List ℕ) where
     pub choose-found : r .held ≡ true → told (selects v (r .transfer) (frontOf (r .transfer) octets)) ≡ told (choose v octets)
     unfolding choose
     choose-found h =
-        sym
-        (ap (λ (s : Option PreparedFrame). told (chooseFrom v octets s)) q
-        ∙ ap told (seek-found isReady (v .transfers) (says none v) (λ place x. selects v x (frontOf x octets)) e h))
+        ap told (seek-found isReady (v .transfers) (says none v) (λ place x. selects v x (frontOf x octets)) e h)
+        ∙ sym (ap (λ (s : Option PreparedFrame). told (chooseFrom v octets s)) q)
 
     -- none has one queued
     pub choose-none : r .held ≡ false → ((gives tt, v .selected), v) ≡ told (choose v octets)
     unfolding choose
     choose-none h =
         ap (λ (s : Option PreparedFrame). ((gives tt, s), v)) q
-        ∙ sym
-        (ap (λ (s : Option PreparedFrame). told (chooseFrom v octets s)) q
-        ∙ ap told (seek-none isReady (v .transfers) (says none v) (λ place x. selects v x (frontOf x octets)) e h))
+        ∙ (ap told (seek-none isReady (v .transfers) (says none v) (λ place x. selects v x (frontOf x octets)) e h)
+        ∙ sym (ap (λ (s : Option PreparedFrame). told (chooseFrom v octets s)) q))
 
 -- ---- a transfer of an echo first
 
@@ -157,65 +111,26 @@ fronted-by v echo place y {x} {m} {s} ex em es =
     ∙ (ap (λ (o : Option PreparedFrame). withSelected (withTransfers v (x ∷ removeAt place (v .transfers))) o) es
     ∙ ap (λ (z : Transfer). withSelected (withTransfers v (z ∷ removeAt place (v .transfers))) (onlyEcho echo (v .selected))) ex)
 
--- a right selection with a frame of another echo dropped is right
-selected-only : (l : List Transfer) (next echo : ℕ) (s : Option PreparedFrame) → Selected l next s → Selected l next (onlyEcho echo s)
-selected-only l next echo none h = tt
-selected-only l next echo (some f) h = go (eqb (f .«partial_echo») echo)
-  where
-    go : (b : Bool) → Selected l next (cond b (some f) none)
-    go true = h
-    go false = tt
-
--- so is the sender
-only-kept : (v : View) (echo : ℕ) → Sound v → Sound (withSelected v (onlyEcho echo (v .selected)))
-only-kept v echo h = record {
-  some-capacity = h .some-capacity;
-  most-capacity = h .most-capacity;
-  live = h .live;
-  accounted = h .accounted;
-  echoes = h .echoes;
-  next-echo = h .next-echo;
-  transfers = h .transfers;
-  different = h .different;
-  selected = selected-only (v .transfers) (v .«next_token») echo (v .selected) (h .selected);
-  counter = h .counter;
-}
-
--- with the transfer of a place at the front it stays sound
-fronted-kept : (v : View) (echo place : ℕ) → place < length (v .transfers) → Sound v → Sound (fronted v echo place (getD (v .transfers) place blankTransfer))
-fronted-kept v echo place lt h =
-    let x = getD (v .transfers) place blankTransfer in
-    let live : Live (v .limits) (v .clock) (v .echoes) (v .«next_token») x = all-at (v .transfers) place blankTransfer lt (h .transfers) in
-    let same = repeated-parcel x in
-    only-kept (withTransfers v (repeated x ∷ removeAt place (v .transfers))) echo
-    (changed-front v place (repeated x) lt (same .0) (same .1) (same .2) (repeated-live x live) (λ f c. repeated-chosen x c) h)
-
--- the same of the transfer that was found
-pub found-kept : (v : View) (test : Transfer → Bool) (echo : ℕ) {r : Place} → r ≡ placeOf test (v .transfers) → r .held ≡ true → Sound v → Sound (fronted v echo (r .place) (r .transfer))
-found-kept v test echo e t h =
-    subst (λ (p : Place). Sound (fronted v echo (p .place) (p .transfer))) (sym e)
-    (fronted-kept v echo (position test (v .transfers)) (place-low v h test e t) h)
-
 module _ (v : View) (octets : List ℕ) (echo : ℕ) {r : Place} (e : r ≡ placeOf (ofEcho echo) (v .transfers)) where
   -- no transfer has the echo
   pub prioritize-none : {s : Option PreparedFrame} → r .held ≡ false → s ≡ none → ((gives tt, s), v) ≡ told (prioritizeAt v octets echo)
   unfolding prioritizeAt
   prioritize-none t es =
-      ap (λ (o : Option PreparedFrame). ((gives tt, o), v)) es ∙ sym (ap told (seek-none (ofEcho echo) (v .transfers) (says none v) (prioritized v octets echo) e t))
+      ap (λ (o : Option PreparedFrame). ((gives tt, o), v)) es ∙ ap told (seek-none (ofEcho echo) (v .transfers) (says none v) (prioritized v octets echo) e t)
 
   module _ (t : r .held ≡ true) {x : Transfer} (ex : x ≡ repeated (r .transfer)) {w : View} (ew : w ≡ fronted v echo (r .place) (r .transfer)) where
     -- the transfer that has it, at the front
-    prioritize-found : (b : Bool) → isReady x ≡ b → told (prioritizeAt v octets echo) ≡ told (cond b (choose w octets) (says none w))
+    prioritize-found : (b : Bool) → isReady x ≡ b → told (cond b (choose w octets) (says none w)) ≡ told (prioritizeAt v octets echo)
     unfolding prioritizeAt
     prioritize-found b q =
-        ap told (seek-found (ofEcho echo) (v .transfers) (says none v) (prioritized v octets echo) e t)
-        ∙ (ap (λ (c : Bool). told (cond c (choose (fronted v echo (r .place) (r .transfer)) octets) (says none (fronted v echo (r .place) (r .transfer))))) (sym (ap isReady ex) ∙ q)
-        ∙ sym (ap (λ (u : View). told (cond b (choose u octets) (says none u))) ew))
+        ap (λ (u : View). told (cond b (choose u octets) (says none u))) ew
+        ∙ (ap (λ (c : Bool). told (cond c (choose (fronted v echo (r .place) (r .transfer)) octets) (says none (fronted v echo (r .place) (r .transfer))))) (sym q ∙ ap isReady ex)
+        ∙ ap told (seek-found (ofEcho echo) (v .transfers) (says none v) (prioritized v octets echo) e t))
 
     -- it has nothing queued
     pub prioritize-idle : {s : Option PreparedFrame} → x .sets .queue ≡ 0 → s ≡ none → ((gives tt, s), w) ≡ told (prioritizeAt v octets echo)
-    prioritize-idle q es = ap (λ (o : Option PreparedFrame). ((gives tt, o), w)) es ∙ sym (prioritize-found false (ap not (eq-eqb (x .sets .queue) 0 q)))
+    prioritize-idle q es = ap (λ (o : Option PreparedFrame). ((gives tt, o), w)) es ∙ prioritize-found false (ap not (eq-eqb (x .sets .queue) 0 q))
 
     -- it has a frame queued
     pub prioritize-ready : (x .sets .queue ≡ 0 → ⊥) → told (choose w octets) ≡ told (prioritizeAt v octets echo)
-    prioritize-ready q = sym (prioritize-found true (ap not (ne-eqb (x .sets .queue) 0 q)))
+    prioritize-ready q = prioritize-found true (ap not (ne-eqb (x .sets .queue) 0 q))

@@ -2,7 +2,7 @@
 -- nothing.
 use mathlib.Core.Path.{_≡_, refl, sym, ap, _∙_}
 use mathlib.Core.Logic.{⊎-elim}
-use mathlib.Core.Bool.{Bool, true, false, cond, not, _||_, _&&_}
+use mathlib.Core.Bool.{Bool, true, false, not, _||_, _&&_}
 use mathlib.Core.List.{List, [], _∷_}
 use Prim.Native.Nat.{ℕ, zero, suc, _+_, _-_, _≤_, _<_}
 use native.Mathlib.Omega.{arith}
@@ -28,7 +28,7 @@ use Rattle.transfer.specs.declared.Place.{Place}
 use Rattle.transfer.specs.declared.Request.{Request}
 use Rattle.transfer.specs.declared.Transfer.{Transfer}
 use Rattle.transfer.specs.declared.TransferToken.{TransferToken}
-use Rattle.transfer.specs.Lists.{position, any, removeAt, pushBack}
+use Rattle.transfer.specs.Lists.{any, removeAt, pushBack}
 use Rattle.transfer.specs.Numbers.{refusalOf}
 use Rattle.transfer.specs.State.{Limits, Clock, Echoes, View, Out, withEchoes, blankTransfer, cancelAt}
 use Rattle.transfer.specs.Echo.{freeEcho, freeAnswer, heldUntil, hold}
@@ -46,6 +46,8 @@ use Rattle.sender.specs.declared.Verdict.the-variants as verdicts
 use Rattle.sender.specs.Answers.{verdictOf}
 use Rattle.sender.specs.Arrays.{viewOf, lent}
 use Rattle.sender.specs.Asked.{screenOf}
+use Rattle.sender.proofs.Admitted.{refuse-then}
+use Rattle.sender.proofs.Found.{held-any}
 
 -- ---- an echo for it
 
@@ -71,29 +73,6 @@ module _ (l : Limits) (c : Clock) (e : Echoes) (deadline frames : ℕ) where
       pub one-echo : {echo : ℕ} → r ≡ Echo echo → gives (record { frames = frames; echo = echo }) ≡ allocated l c e deadline frames
       one-echo q = ap (λ (f : FreeEcho). granted frames (freeAnswer f)) (sym q) ∙ searched
 
--- ---- the transfer to its identity
-
-module _ (v : View) (i : MobileIdentity) {p : Place} (e : p ≡ placeOf (addressed i) (v .transfers)) where
-  -- whether there is one
-  sought : ltb (position (addressed i) (v .transfers)) (length (v .transfers)) ≡ p .held
-  sought = sym (ap (λ (q : Place). q .held) e)
-
-  -- there is none
-  pub replaced-none : p .held ≡ false → v ≡ replaced v i
-  replaced-none h = rw (sought ∙ h)
-
-  -- it stands at its place
-  pub replaced-place : p .held ≡ true → p .place < length (v .transfers)
-  replaced-place h = rw e (ltb-true (position (addressed i) (v .transfers)) (length (v .transfers)) (sought ∙ h))
-
-  -- it is taken out
-  pub replaced-one : p .held ≡ true → cancelAt v (p .place) (p .transfer) ≡ replaced v i
-  replaced-one h = ap (λ (q : Place). cancelAt v (q .place) (q .transfer)) e ∙ rw (sought ∙ h) refl
-
--- one event more has room
-pub event-room : (v : View) (place : ℕ) → place < length (v .transfers) → Sound v → length (v .events) < 256
-event-room v place lt h = let a = h .accounted in let b = h .most-capacity in omega arith
-
 -- ---- the places in the lent store
 
 -- 0 at each place below 128 that none of these has
@@ -104,10 +83,6 @@ pub record Marked (l : List Transfer) (taken : List ℕ) : Type 0 where
 -- of none
 pub marked-none : Marked [] (replicate 128 0)
 marked-none = record { size = length-replicate {A = ℕ} 128 0; marks = λ k h. eq-eqb (getD (replicate 128 0) k 0) 0 (getD-replicate 128 k 0 0 h) }
-
-ltb-suc : (a b : ℕ) → ltb a b ≡ ltb (suc a) (suc b)
-ltb-suc a b =
-    ⊎-elim (λ e. let h = ltb-true a b e in e ∙ sym (lt-ltb (suc a) (suc b) (omega arith))) (λ e. let h = ltb-false a b e in e ∙ sym (le-ltb (suc a) (suc b) (omega arith))) (by-bool (ltb a b))
 
 or-true : (b : Bool) → (b || true) ≡ true
 or-true true = refl
@@ -125,15 +100,6 @@ module _ {A : Type 0} (p : A → Bool) where
       or-more : (a b c : Bool) → (a || (b || c)) ≡ ((a || b) || c)
       or-more true b c = refl
       or-more false b c = refl
-
-  -- some element passes if and only if the search ends at one
-  any-position : (l : List A) → any p l ≡ ltb (position p l) (length l)
-  any-position [] = refl
-  any-position (x ∷ l) = go (p x) (any-position l)
-    where
-      go : (b : Bool) → any p l ≡ ltb (position p l) (length l) → (b || any p l) ≡ ltb (cond b 0 (suc (position p l))) (suc (length l))
-      go true h = sym (lt-ltb 0 (suc (length l)) (omega arith))
-      go false h = h ∙ ltb-suc (position p l) (length l)
 
 -- of one more
 marked-more : (l : List Transfer) (taken : List ℕ) (x : Transfer) → x .parcel .n < 128 → Marked l taken → Marked (pushBack l x) (set taken (x .parcel .n) 1)
@@ -202,11 +168,6 @@ module _ (l : List Transfer) where
 
 -- ---- the refusals in their order
 
--- what goes on past a test
-then-refuse : {A B : Type 0} (t : Bool) (n : ℕ) (o : Outcome A) (f : A → Outcome B) → andThen (refuse t n o) f ≡ refuse t n (andThen o f)
-then-refuse true n o f = refl
-then-refuse false n o f = refl
-
 module _ (v : View) (r : Request) (message : List ℕ) (waiting pending : ℕ) (ew : length (v .events) ≡ waiting) (ep : length (v .transfers) ≡ pending)
     {p : Place} (found : p ≡ placeOf (addressed (r .identity)) (v .transfers)) where
   abbrev screened : Outcome Unit
@@ -218,15 +179,15 @@ module _ (v : View) (r : Request) (message : List ℕ) (waiting pending : ℕ) (
   grant-then : andThen screened rest ≡ grantOf v r message
   unfolding grantOf
   grant-then =
-      let there : p .held ≡ any (addressed (r .identity)) (v .transfers) = ap (λ (q : Place). q .held) found ∙ sym (any-position (addressed (r .identity)) (v .transfers)) in
+      let there : p .held ≡ any (addressed (r .identity)) (v .transfers) = held-any (addressed (r .identity)) (v .transfers) found in
       rw (← ew, ← ep, there)
-      (then-refuse (leb (v .limits .capacity) (length (v .events))) 20 _ rest
+      (sym (refuse-then (leb (v .limits .capacity) (length (v .events))) 20 _ rest)
       ∙ ap (refuse (leb (v .limits .capacity) (length (v .events))) 20)
-      (then-refuse (leb (r .«deadline_ms») (v .clock .«last_ms»)) 23 _ rest
+      (sym (refuse-then (leb (r .«deadline_ms») (v .clock .«last_ms»)) 23 _ rest)
       ∙ ap (refuse (leb (r .«deadline_ms») (v .clock .«last_ms»)) 23)
-      (then-refuse (eqb (length message) 0) 1 _ rest
+      (sym (refuse-then (eqb (length message) 0) 1 _ rest)
       ∙ ap (refuse (eqb (length message) 0) 1)
-      (then-refuse (not (any (addressed (r .identity)) (v .transfers)) && leb (v .limits .capacity) (length (v .transfers))) 20 (gives tt) rest))))
+      (sym (refuse-then (not (any (addressed (r .identity)) (v .transfers)) && leb (v .limits .capacity) (length (v .transfers))) 20 (gives tt) rest)))))
 
   module _ {d : Verdict} (es : verdictOf d ≡ screened) where
     -- refused before the cut

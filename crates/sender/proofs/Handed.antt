@@ -1,14 +1,14 @@
 -- What `submit`, `confirm` and `shows` return, early or last, is what the definition says; and what they ask on their way. Assumes nothing.
-use mathlib.Core.Path.{_≡_, refl, sym, ap, subst, _∙_}
+use mathlib.Core.Path.{_≡_, refl, sym, ap, _∙_}
 use mathlib.Core.Bool.{Bool, true, false, cond, not, _&&_}
 use mathlib.Core.List.{List}
 use mathlib.Core.Option.{none, some}
-use Prim.Native.Nat.{ℕ, zero, suc, _≤_, _<_}
+use Prim.Native.Nat.{ℕ, zero, suc, _<_}
 use native.Mathlib.Omega.{arith}
-use lib.Dec.{eqb, ltb}
-use lib.ListN.{length, getD}
-use borrow.Author.Tests.{not-true, not-false, eq-eqb, ne-eqb, eqb-true, eqb-false, ltb-true}
+use lib.Dec.{eqb}
+use borrow.Author.Tests.{not-true, not-false, eq-eqb, ne-eqb, eqb-true, eqb-false}
 use Rattle.receiver.specs.declared.ArqStatus.{ArqStatus}
+use Rattle.rach.proofs.Laws.{both}
 use Rattle.spach.specs.Refusal.{After}
 use Rattle.transfer.specs.declared.Confirmation.{Confirmation}
 use Rattle.transfer.specs.declared.Confirmation.the-variants.{NotFound, Found}
@@ -17,21 +17,18 @@ use Rattle.transfer.specs.declared.Place.{Place}
 use Rattle.transfer.specs.declared.PreparedFrame.{PreparedFrame}
 use Rattle.transfer.specs.declared.Transfer.{Transfer}
 use Rattle.transfer.specs.Advance.{walk, walked}
-use Rattle.transfer.specs.Invariant.{Live, Chosen, Sound}
-use Rattle.transfer.specs.Lists.{position}
+use Rattle.transfer.specs.Invariant.{Sound}
 use Rattle.transfer.specs.Prepare.{isReady}
 use Rattle.transfer.specs.Queue.{isEmpty, front, has}
 use Rattle.transfer.specs.Sought.{placeOf, askedAt}
-use Rattle.transfer.specs.State.{View, Lent, Out, refusal, says, seek, putAt, ofEcho, ofGeneration, blankTransfer}
+use Rattle.transfer.specs.State.{View, Lent, Out, refusal, says, putAt, ofEcho, ofGeneration}
 use Rattle.transfer.specs.Status.{observes, statusAt}
 use Rattle.transfer.specs.Submitted.{matches, isSelected, handedIn, submittedAt, isOutstanding, confirmFrame, confirms, transmittedAt}
 use Rattle.transfer.specs.Transfer.{wentOut, allTransmitted}
-use Rattle.transfer.proofs.Alive.{frames-live, confirmed-live, observed-live, confirmed-chosen, observed-chosen}
 use Rattle.transfer.proofs.Asked.{asked-past}
 use Rattle.transfer.proofs.Frames.{front-low}
-use Rattle.transfer.proofs.Kept.{changed-kept}
-use Rattle.transfer.proofs.Listed.{all-at}
 use Rattle.sender.specs.Answers.{left}
+use Rattle.sender.proofs.Found.{seek-found, seek-none, found-live, found-frames}
 
 -- ---- the tests of one frame
 
@@ -64,86 +61,22 @@ front-none q frame h = rw (eq-eqb q 0 h)
 pub front-some : (q frame : ℕ) {k : ℕ} → (q ≡ 0 → ⊥) → k ≡ front q → eqb k frame ≡ (not (isEmpty q) && eqb (front q) frame)
 front-some q frame h e = rw (ne-eqb q 0 h, e)
 
--- both of two tests
-both : (a b : Bool) → (a && b) ≡ true → (a ≡ true) × (b ≡ true)
-both true b h = (refl, h)
-both false b h = let z : _≡_ {A = ℕ} 0 1 = cc in absurd (omega arith)
-
--- ---- a transfer that was sought
-
-module _ {A : Type 0} (test : Transfer → Bool) (l : List Transfer) (nothing : A) (found : ℕ → Transfer → A) (r : Place) (e : r ≡ placeOf test l) where
-  -- there is none
-  pub seek-none : not (r .held) ≡ true → nothing ≡ seek test l nothing found
-  seek-none h = let f : ltb (position test l) (length l) ≡ false = sym (ap (λ (p : Place). p .held) e) ∙ not-true (r .held) h in rw f
-
-  -- it is at its place
-  pub seek-found : not (r .held) ≡ false → found (r .place) (r .transfer) ≡ seek test l nothing found
-  seek-found h =
-      let f : ltb (position test l) (length l) ≡ true = sym (ap (λ (p : Place). p .held) e) ∙ not-false (r .held) h in
-      rw f (ap (λ (p : Place). found (p .place) (p .transfer)) e)
-
-module _ (test : Transfer → Bool) (v : View) (r : Place) (e : r ≡ placeOf test (v .transfers)) (h : not (r .held) ≡ false) where
-  -- its place is one of the list
-  pub found-low : r .place < length (v .transfers)
-  found-low =
-      let f : ltb (position test (v .transfers)) (length (v .transfers)) ≡ true = sym (ap (λ (p : Place). p .held) e) ∙ not-false (r .held) h in
-      subst (λ (n : ℕ). n < length (v .transfers)) (sym (ap (λ (p : Place). p .place) e)) (ltb-true (position test (v .transfers)) (length (v .transfers)) f)
-
-  -- it is what stands there
-  pub found-there : r .transfer ≡ getD (v .transfers) (r .place) blankTransfer
-  found-there = ap (λ (p : Place). p .transfer) e ∙ ap (λ (p : Place). getD (v .transfers) (p .place) blankTransfer) (sym e)
-
-  module _ (s : Sound v) where
-    -- it is live
-    pub found-live : Live (v .limits) (v .clock) (v .echoes) (v .«next_token») (r .transfer)
-    found-live = subst (Live (v .limits) (v .clock) (v .echoes) (v .«next_token»)) (sym found-there) (all-at (v .transfers) (r .place) blankTransfer found-low (s .transfers))
-
-    -- its frames are at most 27
-    pub found-frames : r .transfer .parcel .frames ≤ 27
-    found-frames = frames-live (r .transfer) found-live .1
-
-    -- its words are among the 3456
-    pub found-words : r .transfer .parcel .n < 128
-    found-words = let a = found-live .place in let b = s .most-capacity in omega arith
-
-    -- a frame that is its front is one of its frames
-    pub front-frame : (frame : ℕ) {b : Bool} → b ≡ (isReady (r .transfer) && eqb (front (r .transfer .sets .queue)) frame) → not b ≡ false → frame < 27
-    front-frame frame {b} f g =
-        let q = r .transfer .sets .queue in
-        let p = both (isReady (r .transfer)) (eqb (front q) frame) (sym f ∙ not-false b g) in
-        let n : q ≡ 0 → ⊥ = eqb-false q 0 (not-true (isEmpty q) (p .0)) in
-        let some : 0 < q = pos q n in
-        let low = front-low (r .transfer .parcel .frames) q some (found-live .sets .queue) in
-        let same = eqb-true (front q) frame (p .1) in
-        let most = found-frames in
-        omega arith
-      where
-        pos : (n : ℕ) → (n ≡ 0 → ⊥) → 0 < n
-        pos zero k = absurd (k refl)
-        pos (suc n) k = omega arith
-
-    -- it is another of the same parcel, generation and echo, whose frame may be selected: the sender is as sound
-    changed-sound : (y : Transfer) → y .parcel ≡ r .transfer .parcel → y .generation ≡ r .transfer .generation → y .echo ≡ r .transfer .echo
-        → Live (v .limits) (v .clock) (v .echoes) (v .«next_token») y → ((f : PreparedFrame) → Chosen f (r .transfer) → Chosen f y) → Sound (putAt v (r .place) y)
-    changed-sound y p g k live c =
-        changed-kept v (r .place) y found-low
-        (p ∙ ap (λ (x : Transfer). x .parcel) found-there) (g ∙ ap (λ (x : Transfer). x .generation) found-there) (k ∙ ap (λ (x : Transfer). x .echo) found-there)
-        live (λ f d. c f (subst (Chosen f) (sym found-there) d)) s
-
-    module _ {y : Transfer} {u : View} (put : u ≡ putAt v (r .place) y) where
-      -- a frame of it confirmed
-      pub confirmed-sound : (frame : ℕ) → frame < r .transfer .parcel .frames → y ≡ confirmFrame frame (r .transfer) → Sound u
-      confirmed-sound frame low d =
-          let same : u ≡ putAt v (r .place) (confirmFrame frame (r .transfer)) = put ∙ ap (putAt v (r .place)) d in
-          subst Sound (sym same)
-          (changed-sound (confirmFrame frame (r .transfer)) refl refl refl (confirmed-live (r .transfer) found-live frame low) (λ f c. confirmed-chosen (r .transfer) c frame))
-
-      -- a status of it observed
-      pub observed-sound : (map : ℕ) → y ≡ observes map (v .clock .«last_block») (r .transfer) → Sound u
-      observed-sound map d =
-          let same : u ≡ putAt v (r .place) (observes map (v .clock .«last_block») (r .transfer)) = put ∙ ap (putAt v (r .place)) d in
-          subst Sound (sym same)
-          (changed-sound (observes map (v .clock .«last_block») (r .transfer)) refl refl refl (observed-live (r .transfer) found-live map) (λ f c. observed-chosen (r .transfer) c map (v .clock .«last_block»)))
+-- a frame that is the front of a live transfer's queue is below 27
+pub front-frame : (test : Transfer → Bool) (v : View) {r : Place} → r ≡ placeOf test (v .transfers) → r .held ≡ true → Sound v →
+    (frame : ℕ) {b : Bool} → b ≡ (isReady (r .transfer) && eqb (front (r .transfer .sets .queue)) frame) → not b ≡ false → frame < 27
+front-frame test v {r} e t s frame {b} f g =
+    let q = r .transfer .sets .queue in
+    let p = both (isReady (r .transfer)) (eqb (front q) frame) (sym f ∙ not-false b g) in
+    let n : q ≡ 0 → ⊥ = eqb-false q 0 (not-true (isEmpty q) (p .0)) in
+    let some : 0 < q = pos q n in
+    let low = front-low (r .transfer .parcel .frames) q some (found-live test v e t s .sets .queue) in
+    let same = eqb-true (front q) frame (p .1) in
+    let most = found-frames test v e t s in
+    omega arith
+  where
+    pos : (n : ℕ) → (n ≡ 0 → ⊥) → 0 < n
+    pos zero k = absurd (k refl)
+    pos (suc n) k = omega arith
 
 -- ---- a frame handed in
 
@@ -158,26 +91,26 @@ module _ (v : View) (m : Lent) (t : FrameToken) where
     unfolding submittedAt
     submit-unselected h = rw (sym e ∙ not-true b h)
 
-    module _ (h : not b ≡ false) (r : Place) (f : r ≡ placeOf (ofGeneration (t .generation)) (v .transfers)) where
+    module _ (h : not b ≡ false) {r : Place} (f : r ≡ placeOf (ofGeneration (t .generation)) (v .transfers)) where
       -- its transfer is not live
-      pub submit-unfound : not (r .held) ≡ true → refusal 24 v m ≡ submittedAt v m t
+      pub submit-unfound : r .held ≡ false → refusal 24 v m ≡ submittedAt v m t
       unfolding submittedAt
-      submit-unfound g = rw (sym e ∙ not-false b h) (seek-none (ofGeneration (t .generation)) (v .transfers) (refusal 24 v m) fronted r f g)
+      submit-unfound g = rw (sym e ∙ not-false b h) (seek-none (ofGeneration (t .generation)) (v .transfers) (refusal 24 v m) fronted f g)
 
-      module _ (g : not (r .held) ≡ false) {d : Bool} (k : d ≡ (isReady (r .transfer) && eqb (front (r .transfer .sets .queue)) (t .frame))) where
+      module _ (g : r .held ≡ true) {d : Bool} (k : d ≡ (isReady (r .transfer) && eqb (front (r .transfer .sets .queue)) (t .frame))) where
         -- it is not the front of that queue
         pub submit-behind : not d ≡ true → refusal 24 v m ≡ submittedAt v m t
         unfolding submittedAt
         submit-behind w =
             let q : refusal 24 v m ≡ fronted (r .place) (r .transfer) = rw (sym k ∙ not-true d w) in
-            rw (sym e ∙ not-false b h) (q ∙ seek-found (ofGeneration (t .generation)) (v .transfers) (refusal 24 v m) fronted r f g)
+            rw (sym e ∙ not-false b h) (q ∙ seek-found (ofGeneration (t .generation)) (v .transfers) (refusal 24 v m) fronted f g)
 
         -- it is handed in
         submit-front : not d ≡ false → handedIn v m t (r .place) (r .transfer) ≡ submittedAt v m t
         unfolding submittedAt
         submit-front w =
             let q : handedIn v m t (r .place) (r .transfer) ≡ fronted (r .place) (r .transfer) = rw (sym k ∙ not-false d w) in
-            rw (sym e ∙ not-false b h) (q ∙ seek-found (ofGeneration (t .generation)) (v .transfers) (refusal 24 v m) fronted r f g)
+            rw (sym e ∙ not-false b h) (q ∙ seek-found (ofGeneration (t .generation)) (v .transfers) (refusal 24 v m) fronted f g)
 
         -- u is the sender then, and ws are the lent words
         pub submit-handed : not d ≡ false → (u : View) (ws : List ℕ) → u ≡ handedIn v m t (r .place) (r .transfer) .sender → ws ≡ handedIn v m t (r .place) (r .transfer) .lent .words
@@ -193,29 +126,23 @@ walked-past v s = let a = s .live in let b = s .most-capacity in ap (walk v) (as
 
 -- ---- a frame confirmed
 
-module _ (v : View) (words : List ℕ) (t : FrameToken) (r : Place) (f : r ≡ placeOf (ofGeneration (t .generation)) (v .transfers)) where
+module _ (v : View) (words : List ℕ) (t : FrameToken) {r : Place} (f : r ≡ placeOf (ofGeneration (t .generation)) (v .transfers)) where
   -- what is done with the transfer that was found
   abbrev outstanding : ℕ → Transfer → After Confirmation View
   outstanding place x = cond (isOutstanding t words x) (confirms v t place x) (says NotFound v)
 
   -- there is none
-  pub confirm-unfound : not (r .held) ≡ true → says NotFound v ≡ transmittedAt v words t
+  pub confirm-unfound : r .held ≡ false → says NotFound v ≡ transmittedAt v words t
   unfolding transmittedAt
-  confirm-unfound g = seek-none (ofGeneration (t .generation)) (v .transfers) (says NotFound v) outstanding r f g
+  confirm-unfound g = seek-none (ofGeneration (t .generation)) (v .transfers) (says NotFound v) outstanding f g
 
-  module _ (g : not (r .held) ≡ false) {d : Bool} (k : d ≡ isOutstanding t words (r .transfer)) where
+  module _ (g : r .held ≡ true) {d : Bool} (k : d ≡ isOutstanding t words (r .transfer)) where
     -- its frame is not in flight
     pub confirm-lost : not d ≡ true → says NotFound v ≡ transmittedAt v words t
     unfolding transmittedAt
     confirm-lost w =
         let q : says NotFound v ≡ outstanding (r .place) (r .transfer) = rw (sym k ∙ not-true d w) in
-        q ∙ seek-found (ofGeneration (t .generation)) (v .transfers) (says NotFound v) outstanding r f g
-
-    -- its frame is one of the transfer's
-    pub outstanding-frame : not d ≡ false → t .frame < r .transfer .parcel .frames
-    outstanding-frame w =
-        ltb-true (t .frame) (r .transfer .parcel .frames)
-        (both (ltb (t .frame) (r .transfer .parcel .frames)) _ (sym k ∙ not-false d w) .0)
+        q ∙ seek-found (ofGeneration (t .generation)) (v .transfers) (says NotFound v) outstanding f g
 
     -- it is confirmed
     pub confirm-found : (w : not d ≡ false) (completed : Bool) (y : Transfer) (u : View)
@@ -225,11 +152,11 @@ module _ (v : View) (words : List ℕ) (t : FrameToken) (r : Place) (f : r ≡ p
     confirm-found w completed y u a b c =
         let p : says (Found completed) u ≡ confirms v t (r .place) (r .transfer) = rw (c, b, a) in
         let q : confirms v t (r .place) (r .transfer) ≡ outstanding (r .place) (r .transfer) = rw (sym k ∙ not-false d w) in
-        p ∙ (q ∙ seek-found (ofGeneration (t .generation)) (v .transfers) (says NotFound v) outstanding r f g)
+        p ∙ (q ∙ seek-found (ofGeneration (t .generation)) (v .transfers) (says NotFound v) outstanding f g)
 
 -- ---- a status
 
-module _ (v : View) (s : ArqStatus) (r : Place) (f : r ≡ placeOf (ofEcho (s .«partial_echo»)) (v .transfers)) where
+module _ (v : View) (s : ArqStatus) {r : Place} (f : r ≡ placeOf (ofEcho (s .«partial_echo»)) (v .transfers)) where
   -- the transfer that was found, observed
   abbrev observed : Transfer → Transfer
   observed x = observes (s .«received_frames») (v .clock .«last_block») x
@@ -239,17 +166,17 @@ module _ (v : View) (s : ArqStatus) (r : Place) (f : r ≡ placeOf (ofEcho (s .�
   begins place x = cond (has (wentOut x) 0) (says true (walked (putAt v place (observed x)))) (says false v)
 
   -- there is none
-  pub status-unfound : not (r .held) ≡ true → says false v ≡ statusAt v s
+  pub status-unfound : r .held ≡ false → says false v ≡ statusAt v s
   unfolding statusAt
-  status-unfound g = seek-none (ofEcho (s .«partial_echo»)) (v .transfers) (says false v) begins r f g
+  status-unfound g = seek-none (ofEcho (s .«partial_echo»)) (v .transfers) (says false v) begins f g
 
-  module _ (g : not (r .held) ≡ false) {d : Bool} (k : d ≡ has (wentOut (r .transfer)) 0) where
+  module _ (g : r .held ≡ true) {d : Bool} (k : d ≡ has (wentOut (r .transfer)) 0) where
     -- its Begin did not go out
     pub status-unbegun : not d ≡ true → says false v ≡ statusAt v s
     unfolding statusAt
     status-unbegun w =
         let q : says false v ≡ begins (r .place) (r .transfer) = rw (sym k ∙ not-true d w) in
-        q ∙ seek-found (ofEcho (s .«partial_echo»)) (v .transfers) (says false v) begins r f g
+        q ∙ seek-found (ofEcho (s .«partial_echo»)) (v .transfers) (says false v) begins f g
 
     -- it is observed
     pub status-found : (w : not d ≡ false) (y : Transfer) (u : View) → y ≡ observed (r .transfer) → u ≡ walked (putAt v (r .place) y) → says true u ≡ statusAt v s
@@ -257,4 +184,4 @@ module _ (v : View) (s : ArqStatus) (r : Place) (f : r ≡ placeOf (ofEcho (s .�
     status-found w y u a b =
         let p : says true u ≡ says true (walked (putAt v (r .place) (observed (r .transfer)))) = rw (b, a) in
         let q : says true (walked (putAt v (r .place) (observed (r .transfer)))) ≡ begins (r .place) (r .transfer) = rw (sym k ∙ not-false d w) in
-        p ∙ (q ∙ seek-found (ofEcho (s .«partial_echo»)) (v .transfers) (says false v) begins r f g)
+        p ∙ (q ∙ seek-found (ofEcho (s .«partial_echo»)) (v .transfers) (says false v) begins f g)

@@ -1,6 +1,8 @@
 pub mod Admitted
+pub mod Apart
 pub mod Asking
 pub mod Chosen
+pub mod Found
 pub mod Granted
 pub mod Handed
 pub mod Oldest

@@ -1,18 +1,14 @@
 -- Laws of the first elements of an array: one more is put behind them, one is taken out by a shift down, or one is taken out by a
 -- shift up, which leaves room in front. Assumes nothing.
 use mathlib.Core.Path.{_≡_, refl, ap, sym, _∙_}
-use mathlib.Core.List.{List, [], _∷_, _++_, map, append-assoc}
+use mathlib.Core.List.{List, [], _∷_, _++_, append-assoc}
 use Prim.Native.Nat.{ℕ, zero, suc, _+_, _-_, _≤_, _<_}
 use native.Mathlib.Omega.{arith}
 use native.Mathlib.Nat.{add-zero}
 use native.Mathlib.Numerals.{add-one}
-use lib.ListN.{length, take, drop, getD, set, length-append, length-map, length-set, List·getD-append}
+use lib.ListN.{length, take, drop, getD, set, length-append, length-set, List·getD-append}
 use lib.Seq.{drop-cons, getD-take, getD-drop, length-take-le, take-suc-set, take-nil, drop-drop, drop-set-lt, take-set-le, take-take, take-at, drop-at, getD-set-same}
 use Rattle.transfer.specs.Lists.{removeAt, pushBack}
-
--- of an array of structs in a struct, what owning it tells is of its elements as tuples
-pub unmapped : (X Y : Type 0) (f : X → Y) (l : List X) (n : ℕ) → length (map f l) ≡ n → length l ≡ n
-unmapped X Y f l n p = sym (length-map l f) ∙ p
 
 module _ {A : Type 0} where
   -- a place among the first n is below n

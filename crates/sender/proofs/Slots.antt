@@ -1,5 +1,6 @@
--- The slots of a sender as lists: a search that has come to a place, an event put behind the others, and a selection dropped. Assumes nothing.
-use mathlib.Core.Path.{_≡_, refl, sym, _∙_}
+-- The slots of a sender as lists: how many there are, a search that has come to a place, an event put behind the others, and a
+-- selection dropped. Assumes nothing.
+use mathlib.Core.Path.{_≡_, refl, sym, ap, subst, _∙_}
 use mathlib.Core.Bool.{Bool, true, false, cond}
 use mathlib.Core.List.{List, [], _∷_, map, map-append}
 use mathlib.Core.Option.{none, some}
@@ -10,12 +11,18 @@ use borrow.Author.Tests.{eq-eqb, ne-eqb, lt-ltb, le-ltb}
 use lib.Dec.{ltb}
 use lib.ListN.{length, take, drop, getD, set, length-map, drop-of-length-le, List·getD-eq-default}
 use lib.Seq.{drop-cons, getD-take, length-take-le, take-suc-set}
+use Rattle.spach.specs.Refusal.{Outcome, After}
+use Rattle.transfer.specs.declared.Event.{Event}
 use Rattle.transfer.specs.declared.Generation.{Generation}
 use Rattle.transfer.specs.declared.PreparedFrame.{PreparedFrame}
 use Rattle.transfer.specs.declared.Transfer.{Transfer}
+use Rattle.transfer.specs.Invariant.{Sound}
 use Rattle.transfer.specs.Lists.{position, pushBack}
 use Rattle.transfer.specs.Sought.{placeOf}
-use Rattle.transfer.specs.State.{blankTransfer, unselect}
+use Rattle.transfer.specs.State.{View, blankTransfer, unselect}
+use Rattle.sender.specs.declared.EventSlot.{EventSlot}
+use Rattle.sender.specs.declared.Sender.{Sender}
+use Rattle.sender.specs.Arrays.{viewOf, Fitted, Whole}
 
 -- ---- a selection
 
@@ -87,6 +94,32 @@ module _ (test : Transfer → Bool) (s : List Transfer) (n : ℕ) (fits : n ≤ 
 pub stored-behind : (A B : Type 0) (f : A → B) (s : List A) (n : ℕ) (x : A) → n < length s → map f (take (n + 1) (set s n x)) ≡ pushBack (map f (take n s)) (f x)
 stored-behind A B f s n x h = rw (add-one, take-suc-set s n x h) (map-append f (take n s) (x ∷ []))
 
+-- of an array of structs in a struct, what owning it tells is of its elements as tuples
+pub unmapped : (X Y : Type 0) (f : X → Y) (l : List X) (n : ℕ) → length (map f l) ≡ n → length l ≡ n
+unmapped X Y f l n p = sym (length-map l f) ∙ p
+
 -- as many are read as are in use
 pub length-read : (A B : Type 0) (f : A → B) (s : List A) (n : ℕ) → n ≤ length s → length (map f (take n s)) ≡ n
 length-read A B f s n h = length-map (take n s) f ∙ length-take-le n s h
+
+-- ---- how many there are
+
+-- as many transfers are live as are counted
+pub live-counted : (s : Sender) → length (s .transfers) ≡ 128 → Fitted s → length (viewOf s .transfers) ≡ s .pending
+unfolding viewOf
+live-counted s long h = let low = h .pending in length-take-le (s .pending) (s .transfers) (omega arith)
+
+-- as many events wait as are counted
+pub events-counted : (s : Sender) → length (s .events) ≡ 256 → Fitted s → length (viewOf s .events) ≡ s .waiting
+unfolding viewOf
+events-counted s long h = let low = h .waiting in length-read EventSlot Event (λ e. e .event) (s .events) (s .waiting) (omega arith)
+
+-- ---- a whole sender
+
+-- a sender whose view is a sound one is whole
+pub whole-by : {s : Sender} {v : View} → Fitted s → viewOf s ≡ v → Sound v → Whole s
+whole-by f e h = record { fitted = f; sound = subst Sound (sym e) h }
+
+-- so is one that a call leaves, and it is as the call says
+pub whole-after : {A : Type 0} {s : Sender} {o : Outcome A} {a : After A View} → Fitted s → record { outcome = o; state = viewOf s } ≡ a → Sound (a .state) → (_≡_ {A = After A View} (record { outcome = o; state = viewOf s }) a) × Whole s
+whole-after {A} f e h = (e, whole-by f (ap (λ (x : After A View). x .state) e) h)

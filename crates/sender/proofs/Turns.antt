@@ -29,7 +29,7 @@ use Rattle.sender.specs.declared.Selection.{Selection}
 use Rattle.sender.specs.declared.Sender.{Sender}
 use Rattle.sender.specs.Arrays.{selectionOf, viewOf, Whole}
 use Rattle.sender.proofs.Shifts.{push, drop-more, getD-rest}
-use Rattle.sender.proofs.Slots.{stored-behind, length-read}
+use Rattle.sender.proofs.Slots.{stored-behind, live-counted, events-counted}
 
 -- ---- which restart is asked for
 
@@ -77,12 +77,9 @@ walkable s long h j lt =
 
 -- the transfers and the events that wait have room together
 pub room-first : (s : Sender) → length (s .transfers) ≡ 128 → length (s .events) ≡ 256 → Whole s → s .pending + s .waiting ≤ 256
-unfolding viewOf
 room-first s slots events h =
-    let low = h .fitted .pending in
-    let low′ = h .fitted .waiting in
-    let n = length-take-le (s .pending) (s .transfers) (omega arith) in
-    let m = length-read EventSlot Event (λ e. e .event) (s .events) (s .waiting) (omega arith) in
+    let n = live-counted s slots (h .fitted) in
+    let m = events-counted s events (h .fitted) in
     let most = h .sound .most-capacity in
     let all = h .sound .accounted in
     omega arith

@@ -1,7 +1,6 @@
 -- The answers of the sender's calls, and what a call leaves, read as the definitions speak of it. Assumes nothing.
 use mathlib.Core.Bool.{Bool}
 use mathlib.Core.Option.{Option, none}
-use Prim.Native.Nat.{ℕ}
 use Rattle.spach.specs.Refusal.{Outcome, gives, refuses, answered, After}
 use Rattle.transfer.specs.declared.TransferToken.{TransferToken}
 use Rattle.transfer.specs.declared.PreparedFrame.{PreparedFrame}

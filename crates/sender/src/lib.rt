@@ -31,7 +31,6 @@ use spach::SpachError;
 use status::shows;
 use submit::confirm;
 use submit::submit;
-use table::cancel_at;
 use table::find;
 use transfer::Addressee;
 use transfer::CompletionAnswer;

@@ -4,7 +4,6 @@ use super::table::moved_to_front;
 use transfer::effects::age_of;
 use transfer::effects::refreshed;
 ghost use mathlib.Core.Path.{_≡_};
-ghost use Prim.Native.Nat.{_≤_};
 ghost use Rattle.transfer.specs.Refresh as definition;
 ghost use Rattle.sender.specs.Arrays.{viewOf, Fitted, Whole};
 

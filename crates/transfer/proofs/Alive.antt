@@ -1,6 +1,6 @@
 -- A live transfer stays live through each change that a call makes to it, and a chosen frame stays chosen. Assumes nothing.
 use mathlib.Core.Path.{_≡_, refl, sym, ap, subst, _∙_}
-use mathlib.Core.Bool.{Bool, true, false, cond, not, _&&_, _||_, true≢false}
+use mathlib.Core.Bool.{Bool, true, false, cond, not, _&&_, _||_}
 use Prim.Native.Nat.{ℕ, zero, suc, _-_, _^_, _≤_, _<_, min}
 use native.Mathlib.Omega.{arith}
 use lib.Bits.{bitAnd, bitOr, and-zero-r, and-le-r, or-lt}
@@ -8,6 +8,7 @@ use lib.Pow.{pow-lt, pow-mono, pow-pos}
 use lib.ListN.{length}
 use lib.Seq.{getD-set-same}
 use borrow.Author.Tests.{eqb-true, eqb-false, eq-eqb, not-true}
+use Rattle.rach.proofs.Laws.{both}
 use Rattle.arq.proofs.Theorems.{cut-most}
 use Rattle.receiver.specs.Map.{bitOf, withBit}
 use Rattle.receiver.proofs.Maps.{added-lt}
@@ -43,11 +44,6 @@ pub frames-live : {l : Limits} {c : Clock} {e : Echoes} {next : ℕ} (x : Transf
 frames-live x h = accepted-frames x (h .accepted)
 
 -- ---- an idle transfer
-
--- both of two tests
-both : (a b : Bool) → (a && b) ≡ true → (a ≡ true) × (b ≡ true)
-both true b h = (refl, h)
-both false b h = absurd (true≢false (sym h))
 
 -- an idle transfer has no frame queued and none in flight
 pub idle-empty : (x : Transfer) → idle x ≡ true → (x .sets .queue ≡ 0) × (x .sets .«in_flight» ≡ 0)

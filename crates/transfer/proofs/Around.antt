@@ -2,9 +2,9 @@
 use mathlib.Core.Path.{_≡_, refl, sym, ap, _∙_}
 use mathlib.Core.Logic.{_↔_}
 use mathlib.Core.Bool.{Bool, true, false, cond}
-use mathlib.Core.List.{List, [], _∷_}
+use mathlib.Core.List.{List}
 use mathlib.Core.Option.{none, some}
-use Prim.Native.Nat.{ℕ, zero, suc, _+_, _-_, _≤_, _<_, _%_}
+use Prim.Native.Nat.{ℕ, _+_, _-_, _≤_, _<_, _%_}
 use native.Mathlib.Numerals.{add-one}
 use native.Mathlib.Omega.{arith}
 use borrow.Author.Tests.{leb-true, leb-false, lt-leb, le-leb, lt-ltb, le-ltb, ltb-true, ltb-false}
@@ -14,6 +14,7 @@ use lib.Seq.{drop-cons, getD-drop, getD-take, getD-append-add, getD-set-same, ge
 use Rattle.transfer.specs.Lists.{position}
 use Rattle.transfer.specs.State.{Echoes}
 use Rattle.transfer.specs.Echo.{free, around, freeEcho, hold}
+use Rattle.transfer.proofs.Listed.{all-at, position-none, position-found}
 
 -- a search that has come to i: what it gives from the start
 module _ {A : Type 0} (p : A → Bool) (l : List A) (d : A) where
@@ -28,25 +29,6 @@ module _ {A : Type 0} (p : A → Bool) (l : List A) (d : A) where
 
   position-end : (i : ℕ) → length l ≤ i → positionFrom i ≡ i
   position-end i h = rw (drop-of-length-le l {i = i} (omega arith)) (omega arith)
-
--- what a whole search tells of the elements
-module _ {A : Type 0} (p : A → Bool) (d : A) where
-  position-passes : (l : List A) → position p l < length l → p (getD l (position p l) d) ≡ true
-  position-passes [] h = absurd (omega arith)
-  position-passes (x ∷ l) h = at (p x) refl h (position-passes l)
-    where
-      at : (b : Bool) → p x ≡ b → cond b 0 (suc (position p l)) < suc (length l) → (position p l < length l → p (getD l (position p l) d) ≡ true) → p (getD (x ∷ l) (cond b 0 (suc (position p l))) d) ≡ true
-      at true q h f = q
-      at false q h f = f (omega arith)
-
-  none-passes : (l : List A) → length l ≤ position p l → (k : ℕ) → k < length l → p (getD l k d) ≡ false
-  none-passes [] h k lt = absurd (omega arith)
-  none-passes (x ∷ l) h k lt = at (p x) refl h (none-passes l) k lt
-    where
-      at : (b : Bool) → p x ≡ b → suc (length l) ≤ cond b 0 (suc (position p l)) → (length l ≤ position p l → (k : ℕ) → k < length l → p (getD l k d) ≡ false) → (k : ℕ) → k < suc (length l) → p (getD (x ∷ l) k d) ≡ false
-      at true q h f k lt = absurd (omega arith)
-      at false q h f zero lt = q
-      at false q h f (suc k) lt = f (omega arith) k (omega arith)
 
 module _ (u : List ℕ) (next : ℕ) (long : length u ≡ 128) (low : next < 128) where
   abbrev echoes : Echoes
@@ -112,7 +94,7 @@ module _ (e : Echoes) (long : length (e .«echo_until_ms») ≡ 128) where
     found h =
         let len = around-long (e .«echo_until_ms») (e .«next_echo») long low in
         let at = around-at (e .«echo_until_ms») (e .«next_echo») long low offset h in
-        leb-true _ _ (ap (free now) (sym at) ∙ position-passes (free now) 0 (around e) (omega arith))
+        leb-true _ _ (ap (free now) (sym at) ∙ position-found (free now) 0 (around e) (omega arith))
 
     in-vain : 128 ≤ offset → (k : ℕ) → k < 128 → now < getD (e .«echo_until_ms») k 0
     in-vain h k lt =
@@ -120,7 +102,7 @@ module _ (e : Echoes) (long : length (e .«echo_until_ms») ≡ 128) where
         let j : ((k + 128) - e .«next_echo») % 128 < 128 = omega arith in
         let back : (e .«next_echo» + ((k + 128) - e .«next_echo») % 128) % 128 ≡ k = omega arith in
         let at = around-at (e .«echo_until_ms») (e .«next_echo») long low (((k + 128) - e .«next_echo») % 128) j in
-        let f = none-passes (free now) 0 (around e) (omega arith) (((k + 128) - e .«next_echo») % 128) (omega arith) in
+        let f = all-at (around e) (((k + 128) - e .«next_echo») % 128) 0 (omega arith) (position-none (free now) (around e) (omega arith)) in
         leb-false _ _ (ap (free now) (sym (at ∙ ap (λ (i : ℕ). getD (e .«echo_until_ms») i 0) back)) ∙ f)
 
     -- an echo is taken only if it is held until now or earlier

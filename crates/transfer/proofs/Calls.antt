@@ -1,7 +1,7 @@
 -- Each call that advances keeps `Sound`, refusals included; and what `advance` never says. Assumes nothing.
 use mathlib.Core.Path.{_≡_, refl, sym, ap, subst, _∙_}
 use mathlib.Core.Logic.{_≢_, _⊎_, inl, inr, ⊎-elim, _↔_}
-use mathlib.Core.Bool.{Bool, true, false, cond, _&&_, _||_}
+use mathlib.Core.Bool.{Bool, true, false, _&&_, _||_}
 use mathlib.Core.List.{List, _∷_, map}
 use mathlib.Core.Option.{Option, none, some}
 use Prim.Native.Nat.{ℕ, suc, _+_, _≤_, _<_}
@@ -11,6 +11,7 @@ use lib.ListN.{length, take, drop, getD, length-map}
 use lib.Seq.{split-at}
 use borrow.Author.Tests.{ltb-true}
 use Rattle.token.specs.Token.{stop, fewerThan}
+use Rattle.rach.proofs.Laws.{both}
 use Rattle.spach.specs.Refusal.{Outcome, gives, refuses, refuse, After, onward}
 use Rattle.arq.specs.declared.PackedFrame.{PackedFrame}
 use Rattle.receiver.specs.declared.ArqStatus.{ArqStatus}
@@ -20,23 +21,20 @@ use Rattle.transfer.specs.declared.Fate.the-variants.{Restarts}
 use Rattle.transfer.specs.declared.FrameToken.{FrameToken}
 use Rattle.transfer.specs.declared.Transfer.{Transfer}
 use Rattle.transfer.specs.declared.PreparedFrame.{PreparedFrame}
-use Rattle.transfer.specs.declared.Confirmation.{Confirmation}
-use Rattle.transfer.specs.declared.Confirmation.the-variants.{NotFound}
 use Rattle.transfer.specs.Lists.{removeAt, pushBack}
 use Rattle.transfer.specs.Queue.{has}
-use Rattle.transfer.specs.State.{Clock, View, Lent, withClock, withTransfers, withSelected, tokenTaken, short, admitted, says, blankTransfer, putAt, ofEcho, ofGeneration, ended}
+use Rattle.transfer.specs.State.{Clock, View, Lent, withClock, withTransfers, withSelected, tokenTaken, short, admitted, says, blankTransfer, putAt, ended}
 use Rattle.transfer.specs.Echo.{freeEcho}
-use Rattle.transfer.specs.Transfer.{wentOut}
 use Rattle.transfer.specs.Advance.{restart, landed, walk, walked, advanceOf}
-use Rattle.transfer.specs.Prepare.{isReady, frontOf, preparedOf, selects, chooseFrom, choose, prepareOf, hasEchoOf, askedFor, interrupted, interruptOf, repeated, onlyEcho, prioritized, prioritizeAt, preparePrioritizedOf}
-use Rattle.transfer.specs.Submitted.{wordOf, isOutstanding, confirmFrame, confirms, transmittedAt, transmittedOf}
+use Rattle.transfer.specs.Prepare.{isReady, frontOf, preparedOf, selects, chooseFrom, choose, prepareOf, hasEchoOf, askedFor, interrupted, interruptOf, repeated, onlyEcho, prioritizeAt, preparePrioritizedOf}
+use Rattle.transfer.specs.Submitted.{wordOf, isOutstanding, confirmFrame, transmittedAt, transmittedOf}
 use Rattle.transfer.specs.Status.{observes, statusAt, statusOf}
 use Rattle.transfer.specs.Refresh.{refreshed, queueWaiting, oldest, toFront, oldestFirst, serveOldest, refreshWaitingOf}
 use Rattle.transfer.specs.Invariant.{All, all-none, all-more, Some, some-here, some-later, Pairs, pairs-none, pairs-more, Live, Different, Chosen, Selected, Sound}
 use Rattle.transfer.proofs.Listed.{all-at, some-one, some-removed, length-back}
 use Rattle.transfer.proofs.Alive.{confirmed-live, observed-live, repeated-live, refreshed-live, repeated-parcel, refreshed-parcel, repeated-chosen, refreshed-chosen, observed-chosen, confirmed-chosen}
 use Rattle.transfer.proofs.Around.{none-free}
-use Rattle.transfer.proofs.Kept.{different-sym, different-same, changed-kept, changed-front-selecting, front-kept, token-kept, cond-cases, seek-cases, onward-cases, admitted-kept, admitted-tokens}
+use Rattle.transfer.proofs.Kept.{different-sym, different-same, changed-kept, changed-front-selecting, front-kept, listed-kept, selected-kept, token-kept, cond-cases, seek-cases, prioritize-cases, confirm-cases, status-cases, onward-cases, admitted-kept, admitted-tokens}
 use Rattle.transfer.proofs.Walked.{walked-kept, walked-near, asked-for-kept}
 
 -- ---- lists
@@ -81,11 +79,6 @@ unfolding advanceOf
 advance-call-kept v m block now h = onward-cases {A = Unit} Sound v (admitted v m block now) (λ w. says tt (walked w)) h (λ w e. admitted-walked-kept v m block now e h)
 
 -- ---- prepare
-
--- with any selection that is right
-pub selected-kept : (v : View) (s : Option PreparedFrame) → Selected (v .transfers) (v .«next_token») s → Sound v → Sound (withSelected v s)
-selected-kept v s sel h =
-    record { some-capacity = h .some-capacity; most-capacity = h .most-capacity; live = h .live; accounted = h .accounted; echoes = h .echoes; next-echo = h .next-echo; transfers = h .transfers; different = h .different; selected = sel; counter = h .counter }
 
 -- the front of a transfer that has a frame queued is selected, under the next token
 pub prepared-kept : (v : View) (place : ℕ) (x : Transfer) (p : PackedFrame) → place < length (v .transfers) → x ≡ getD (v .transfers) place blankTransfer → isReady x ≡ true → v .«next_token» < stop
@@ -156,18 +149,12 @@ prioritized-kept v place echo x lt e h =
 
 -- what `prepare_prioritized` does after its `advance`
 pub prioritize-kept : (v : View) (octets : List ℕ) (echo : ℕ) → v .«next_token» < stop → Sound v → Sound (prioritizeAt v octets echo .state)
-unfolding prioritizeAt
-prioritize-kept v octets echo room h = seek-cases {X = After (Option PreparedFrame) View} P (ofEcho echo) (v .transfers) (says none v) (prioritized v octets echo) (λ n. h) found
-  where
-    P : After (Option PreparedFrame) View → Type 0
-    P a = Sound (a .state)
-
-    found : (i : ℕ) → i < length (v .transfers) → ofEcho echo (getD (v .transfers) i blankTransfer) ≡ true → P (prioritized v octets echo i (getD (v .transfers) i blankTransfer))
-    found i lt t =
-        let x = getD (v .transfers) i blankTransfer in
-        let w = withSelected (withTransfers v (repeated x ∷ removeAt i (v .transfers))) (onlyEcho echo (v .selected)) in
-        let s : Sound w = prioritized-kept v i echo x lt refl h in
-        cond-cases {X = After (Option PreparedFrame) View} P (isReady (repeated x)) (choose w octets) (says none w) (λ e. choose-kept w octets room s) (λ e. s)
+prioritize-kept v octets echo room h =
+    prioritize-cases (λ a. Sound (a .state)) v octets echo h
+    (λ i lt. let x = getD (v .transfers) i blankTransfer in
+    let w = withSelected (withTransfers v (repeated x ∷ removeAt i (v .transfers))) (onlyEcho echo (v .selected)) in
+    let s : Sound w = prioritized-kept v i echo x lt refl h in
+    (choose-kept w octets room s, s))
 
 -- `prepare_prioritized`
 pub prepare-prioritized-call-kept : (v : View) (m : Lent) (echo block now : ℕ) → Sound v → Sound (preparePrioritizedOf v m echo block now .state)
@@ -187,28 +174,15 @@ put-confirmed-kept v place frame x lt e low h =
 
 -- a frame that is outstanding is one of the transfer's
 pub outstanding-frame : (t : FrameToken) (words : List ℕ) (x : Transfer) → isOutstanding t words x ≡ true → t .frame < x .parcel .frames
-outstanding-frame t words x e = ltb-true _ _ (go (ltb (t .frame) (x .parcel .frames)) (has (x .sets .«in_flight») (t .frame) && eqb (getD words (wordOf x (t .frame)) 0) (t .submission .0)) e)
-  where
-    go : (a b : Bool) → (a && b) ≡ true → a ≡ true
-    go true b e = refl
-    go false b e = e
+outstanding-frame t words x e =
+    ltb-true (t .frame) (x .parcel .frames) (both (ltb (t .frame) (x .parcel .frames)) (has (x .sets .«in_flight») (t .frame) && eqb (getD words (wordOf x (t .frame)) 0) (t .submission .0)) e .0)
 
 -- what `transmitted` does at the moved clock
 pub confirm-kept : (v : View) (words : List ℕ) (t : FrameToken) → v .«next_token» + 128 ≤ stop → Sound v → Sound (transmittedAt v words t .state)
-unfolding transmittedAt
-confirm-kept v words t room h = seek-cases {X = After Confirmation View} P (ofGeneration (t .generation)) (v .transfers) (says NotFound v) at (λ n. h) found
-  where
-    P : After Confirmation View → Type 0
-    P a = Sound (a .state)
-
-    at : ℕ → Transfer → After Confirmation View
-    at place x = cond (isOutstanding t words x) (confirms v t place x) (says NotFound v)
-
-    found : (i : ℕ) → i < length (v .transfers) → ofGeneration (t .generation) (getD (v .transfers) i blankTransfer) ≡ true → P (at i (getD (v .transfers) i blankTransfer))
-    found i lt g =
-        let x = getD (v .transfers) i blankTransfer in
-        cond-cases {X = After Confirmation View} P (isOutstanding t words x) (confirms v t i x) (says NotFound v)
-        (λ e. walked-kept (putAt v i (confirmFrame (t .frame) x)) room (put-confirmed-kept v i (t .frame) x lt refl (outstanding-frame t words x e) h)) (λ e. h)
+confirm-kept v words t room h =
+    confirm-cases Sound v words t h
+    (λ i lt e. let x = getD (v .transfers) i blankTransfer in
+    walked-kept (putAt v i (confirmFrame (t .frame) x)) room (put-confirmed-kept v i (t .frame) x lt refl (outstanding-frame t words x e) h))
 
 -- `transmitted`
 pub transmitted-call-kept : (v : View) (m : Lent) (t : FrameToken) (block now : ℕ) → Sound v → Sound (transmittedOf v m t block now .state)
@@ -228,23 +202,10 @@ put-observed-kept v place map x lt e h =
 
 -- what `status` does after its first `advance`
 pub shows-kept : (v : View) (s : ArqStatus) → v .«next_token» + 128 ≤ stop → Sound v → Sound (statusAt v s .state)
-unfolding statusAt
-shows-kept v s room h = seek-cases {X = After Bool View} P (ofEcho (s .«partial_echo»)) (v .transfers) (says false v) at (λ n. h) found
-  where
-    P : After Bool View → Type 0
-    P a = Sound (a .state)
-
-    shown-at : ℕ → Transfer → View
-    shown-at place x = putAt v place (observes (s .«received_frames») (v .clock .«last_block») x)
-
-    at : ℕ → Transfer → After Bool View
-    at place x = cond (has (wentOut x) 0) (says true (walked (shown-at place x))) (says false v)
-
-    found : (i : ℕ) → i < length (v .transfers) → ofEcho (s .«partial_echo») (getD (v .transfers) i blankTransfer) ≡ true → P (at i (getD (v .transfers) i blankTransfer))
-    found i lt t =
-        let x = getD (v .transfers) i blankTransfer in
-        cond-cases {X = After Bool View} P (has (wentOut x) 0) (says true (walked (shown-at i x))) (says false v)
-        (λ e. walked-kept (shown-at i x) room (put-observed-kept v i (s .«received_frames») x lt refl h)) (λ e. h)
+shows-kept v s room h =
+    status-cases Sound v s h
+    (λ i lt. let x = getD (v .transfers) i blankTransfer in
+    walked-kept (putAt v i (observes (s .«received_frames») (v .clock .«last_block») x)) room (put-observed-kept v i (s .«received_frames») x lt refl h))
 
 -- `status`
 pub status-call-kept : (v : View) (m : Lent) (s : ArqStatus) (block now : ℕ) → Sound v → Sound (statusOf v m s block now .state)
@@ -276,18 +237,9 @@ queue-waiting-kept v h =
     let n : length (map f (v .transfers)) ≡ length (v .transfers) = length-map (v .transfers) f in
     let a = h .live in
     let b = h .accounted in
-    record {
-      some-capacity = h .some-capacity;
-      most-capacity = h .most-capacity;
-      live = omega arith;
-      accounted = omega arith;
-      echoes = h .echoes;
-      next-echo = h .next-echo;
-      transfers = all-each f (λ x k. refreshed-live x k (v .clock .«last_block»)) (h .transfers);
-      different = pairs-each f (refreshed-different (v .clock) (v .clock .«last_block»)) (h .different);
-      selected = refreshed-selected (v .clock .«last_block») (v .transfers) (v .«next_token») (v .selected) (h .selected);
-      counter = h .counter;
-    }
+    listed-kept v (map f (v .transfers)) (v .events) (v .selected) (omega arith) (omega arith)
+    (all-each f (λ x k. refreshed-live x k (v .clock .«last_block»)) (h .transfers)) (pairs-each f (refreshed-different (v .clock) (v .clock .«last_block»)) (h .different))
+    (refreshed-selected (v .clock .«last_block») (v .transfers) (v .«next_token») (v .selected) (h .selected)) h
 
 -- the transfer at a place, if there is one, goes to the front
 pub to-front-kept : (v : View) (place : ℕ) → Sound v → Sound (withTransfers v (toFront place (v .transfers)))

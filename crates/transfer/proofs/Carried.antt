@@ -1,7 +1,7 @@
 -- What every call but `enqueue` carries on, of each transfer's parcel and of the selected frame and its transfer. Assumes nothing.
 use mathlib.Core.Path.{_≡_, refl, sym, subst}
 use mathlib.Core.Logic.{⊎-elim}
-use mathlib.Core.Bool.{Bool, true, false, cond, _&&_, _||_}
+use mathlib.Core.Bool.{Bool, true, false, cond, _||_}
 use mathlib.Core.List.{List, [], _∷_, _++_, map, foldl, append-nil, append-assoc}
 use mathlib.Core.Option.{Option, none, some, Option·none-ne-some}
 use Prim.Native.Nat.{ℕ, suc, _<_}
@@ -21,16 +21,13 @@ use Rattle.transfer.specs.declared.FrameToken.{FrameToken}
 use Rattle.transfer.specs.declared.Parcel.{Parcel}
 use Rattle.transfer.specs.declared.Transfer.{Transfer}
 use Rattle.transfer.specs.declared.PreparedFrame.{PreparedFrame}
-use Rattle.transfer.specs.declared.Confirmation.{Confirmation}
-use Rattle.transfer.specs.declared.Confirmation.the-variants.{NotFound}
 use Rattle.transfer.specs.Lists.{removeAt, pushBack}
-use Rattle.transfer.specs.Queue.{has, front}
-use Rattle.transfer.specs.State.{View, Lent, Out, withTransfers, withSelected, short, ticked, admitted, says, refusal, goesOn, seek, blankTransfer, putAt, ofEcho, ofGeneration, unselect, ended, cancelAt}
+use Rattle.transfer.specs.State.{View, Lent, Out, withTransfers, withSelected, short, ticked, admitted, says, refusal, goesOn, blankTransfer, putAt, unselect, ended, cancelAt}
 use Rattle.transfer.specs.Echo.{freeEcho}
-use Rattle.transfer.specs.Transfer.{wentOut, doneOf, settleOf, restartDue, begun}
+use Rattle.transfer.specs.Transfer.{doneOf, settleOf, restartDue, begun}
 use Rattle.transfer.specs.Advance.{overdue, fateOf, kept, restart, landed, step, walk, unasked, walked, advanceOf}
-use Rattle.transfer.specs.Prepare.{isReady, frontOf, preparedOf, selects, chooseFrom, choose, prepareOf, hasEchoOf, askedFor, interrupted, interruptOf, repeated, onlyEcho, prioritized, prioritizeAt, preparePrioritizedOf}
-use Rattle.transfer.specs.Submitted.{isSelected, inFlight, handedIn, submittedAt, submittedOf, isOutstanding, confirmFrame, confirms, transmittedAt, transmittedOf}
+use Rattle.transfer.specs.Prepare.{isReady, frontOf, preparedOf, selects, chooseFrom, choose, prepareOf, hasEchoOf, askedFor, interrupted, interruptOf, repeated, onlyEcho, prioritizeAt, preparePrioritizedOf}
+use Rattle.transfer.specs.Submitted.{inFlight, submittedAt, submittedOf, confirmFrame, transmittedAt, transmittedOf}
 use Rattle.transfer.specs.Status.{observes, statusAt, statusOf}
 use Rattle.transfer.specs.Cancel.{cancelFirst, cancelAllOf}
 use Rattle.transfer.specs.Refresh.{refreshed, queueWaiting, oldest, oldestFirst, serveOldest, refreshWaitingOf}
@@ -39,7 +36,7 @@ use Rattle.transfer.specs.Invariant.{All, all-none, Some}
 use Rattle.transfer.specs.History.{frameIn}
 use Rattle.transfer.proofs.Listed.{all-one, all-rest, all-in, some-out, some-one, some-in}
 use Rattle.transfer.proofs.Alive.{SameParcel, settled-parcel, repeated-parcel, refreshed-parcel}
-use Rattle.transfer.proofs.Kept.{cond-cases, seek-cases, onward-cases, ticked-gives, admitted-gives}
+use Rattle.transfer.proofs.Kept.{cond-cases, seek-cases, prioritize-cases, submit-cases, confirm-cases, status-cases, onward-cases, ticked-gives, admitted-gives}
 use Rattle.transfer.proofs.Walked.{behind, transfersOf, unasked-all, asked-for-all}
 use Rattle.transfer.proofs.Calls.{some-at, all-each, some-each}
 
@@ -232,17 +229,14 @@ module _ (fact : Lasting) where
 
     -- what `prepare_prioritized` does after its `advance`
     prioritize-carries : (v : View) (echo : ℕ) → Carries v → Shown (prioritizeAt v octets echo)
-    unfolding prioritizeAt
-    prioritize-carries v echo h = seek-cases {X = After (Option PreparedFrame) View} Shown (ofEcho echo) (v .transfers) (says none v) (prioritized v octets echo) (λ n. silent v h) found
-      where
-        found : (i : ℕ) → i < length (v .transfers) → ofEcho echo (getD (v .transfers) i blankTransfer) ≡ true → Shown (prioritized v octets echo i (getD (v .transfers) i blankTransfer))
-        found i lt t =
-            let x = getD (v .transfers) i blankTransfer in
-            let l = repeated x ∷ removeAt i (v .transfers) in
-            let w = withSelected (withTransfers v l) (onlyEcho echo (v .selected)) in
-            let r : Right l (v .selected) = right-placed (v .transfers) i lt (v .selected) h [] (repeated x) (removeAt i (v .transfers)) refl (repeated-parcel x) in
-            let s : Carries w = (r .0, only-echo-drawn echo l (v .selected) (r .1)) in
-            cond-cases {X = After (Option PreparedFrame) View} Shown (isReady (repeated x)) (choose w octets) (says none w) (λ e. choose-carries w s) (λ e. silent w s)
+    prioritize-carries v echo h =
+        prioritize-cases Shown v octets echo (silent v h)
+        (λ i lt. let x = getD (v .transfers) i blankTransfer in
+        let l = repeated x ∷ removeAt i (v .transfers) in
+        let w = withSelected (withTransfers v l) (onlyEcho echo (v .selected)) in
+        let r : Right l (v .selected) = right-placed (v .transfers) i lt (v .selected) h [] (repeated x) (removeAt i (v .transfers)) refl (repeated-parcel x) in
+        let s : Carries w = (r .0, only-echo-drawn echo l (v .selected) (r .1)) in
+        (choose-carries w s, silent w s))
 
   module _ (v : View) (m : Lent) (h : Carries v) (front-drawn : (x : Transfer) (p : PackedFrame) (submission : ℕ) → frontOf x (m .octets) ≡ gives p → fact .Framed (preparedOf x p submission) x) where
     -- `prepare`
@@ -274,21 +268,12 @@ module _ (fact : Lasting) where
 
   -- what `submitted` does at the moved clock
   submitted-at-carries : (v : View) (m : Lent) (t : FrameToken) → Carries v → Unwritten m (submittedAt v m t)
-  unfolding submittedAt
   submitted-at-carries v m t h =
-      cond-cases {X = Out Unit} (Unwritten m) (isSelected t (v .selected)) (seek (ofGeneration (t .generation)) (v .transfers) (refusal 24 v m) found) (refusal 24 v m)
-      (λ e. seek-cases {X = Out Unit} (Unwritten m) (ofGeneration (t .generation)) (v .transfers) (refusal 24 v m) found (λ n. (h, refl)) at-place) (λ e. (h, refl))
-    where
-      found : ℕ → Transfer → Out Unit
-      found place x = cond (isReady x && eqb (front (x .sets .queue)) (t .frame)) (handedIn v m t place x) (refusal 24 v m)
-
-      at-place : (i : ℕ) → i < length (v .transfers) → ofGeneration (t .generation) (getD (v .transfers) i blankTransfer) ≡ true → Unwritten m (found i (getD (v .transfers) i blankTransfer))
-      at-place i lt g =
-          let x = getD (v .transfers) i blankTransfer in
-          let y = inFlight (t .frame) (v .clock .«last_block») x in
-          let l = removeAt i (v .transfers) in
-          cond-cases {X = Out Unit} (Unwritten m) (isReady x && eqb (front (x .sets .queue)) (t .frame)) (handedIn v m t i x) (refusal 24 v m)
-          (λ e. (right-none (pushBack l y) (v .selected) (right-placed (v .transfers) i lt (v .selected) h l y [] (append-nil l) (refl, refl, refl)), refl)) (λ e. (h, refl))
+      submit-cases (Unwritten m) v m t (h, refl)
+      (λ i lt e. let x = getD (v .transfers) i blankTransfer in
+      let y = inFlight (t .frame) (v .clock .«last_block») x in
+      let l = removeAt i (v .transfers) in
+      (right-none (pushBack l y) (v .selected) (right-placed (v .transfers) i lt (v .selected) h l y [] (append-nil l) (refl, refl, refl)), refl))
 
   -- `submitted`
   pub submitted-carries : (v : View) (m : Lent) (t : FrameToken) (block now : ℕ) → Carries v → Unwritten m (submittedOf v m t block now)
@@ -299,20 +284,9 @@ module _ (fact : Lasting) where
 
   -- what `transmitted` does at the moved clock
   confirm-carries : (v : View) (words : List ℕ) (t : FrameToken) → Carries v → Carries (transmittedAt v words t .state)
-  unfolding transmittedAt
-  confirm-carries v words t h = seek-cases {X = After Confirmation View} P (ofGeneration (t .generation)) (v .transfers) (says NotFound v) at (λ n. h) found
-    where
-      P : After Confirmation View → Type 0
-      P a = Carries (a .state)
-
-      at : ℕ → Transfer → After Confirmation View
-      at place x = cond (isOutstanding t words x) (confirms v t place x) (says NotFound v)
-
-      found : (i : ℕ) → i < length (v .transfers) → ofGeneration (t .generation) (getD (v .transfers) i blankTransfer) ≡ true → P (at i (getD (v .transfers) i blankTransfer))
-      found i lt g =
-          let x = getD (v .transfers) i blankTransfer in
-          let y = confirmFrame (t .frame) x in
-          cond-cases {X = After Confirmation View} P (isOutstanding t words x) (confirms v t i x) (says NotFound v) (λ e. walked-carries (putAt v i y) (right-put v i y lt (refl, refl, refl) h)) (λ e. h)
+  confirm-carries v words t h =
+      confirm-cases Carries v words t h
+      (λ i lt e. let y = confirmFrame (t .frame) (getD (v .transfers) i blankTransfer) in walked-carries (putAt v i y) (right-put v i y lt (refl, refl, refl) h))
 
   -- `transmitted`
   pub transmitted-carries : (v : View) (m : Lent) (t : FrameToken) (block now : ℕ) → Carries v → Carries (transmittedOf v m t block now .state)
@@ -322,23 +296,9 @@ module _ (fact : Lasting) where
 
   -- what `status` does after its first `advance`
   shows-carries : (v : View) (s : ArqStatus) → Carries v → Carries (statusAt v s .state)
-  unfolding statusAt
-  shows-carries v s h = seek-cases {X = After Bool View} P (ofEcho (s .«partial_echo»)) (v .transfers) (says false v) at (λ n. h) found
-    where
-      P : After Bool View → Type 0
-      P a = Carries (a .state)
-
-      shown-at : ℕ → Transfer → View
-      shown-at place x = putAt v place (observes (s .«received_frames») (v .clock .«last_block») x)
-
-      at : ℕ → Transfer → After Bool View
-      at place x = cond (has (wentOut x) 0) (says true (walked (shown-at place x))) (says false v)
-
-      found : (i : ℕ) → i < length (v .transfers) → ofEcho (s .«partial_echo») (getD (v .transfers) i blankTransfer) ≡ true → P (at i (getD (v .transfers) i blankTransfer))
-      found i lt t =
-          let x = getD (v .transfers) i blankTransfer in
-          let y = observes (s .«received_frames») (v .clock .«last_block») x in
-          cond-cases {X = After Bool View} P (has (wentOut x) 0) (says true (walked (shown-at i x))) (says false v) (λ e. walked-carries (putAt v i y) (right-put v i y lt (refl, refl, refl) h)) (λ e. h)
+  shows-carries v s h =
+      status-cases Carries v s h
+      (λ i lt. let y = observes (s .«received_frames») (v .clock .«last_block») (getD (v .transfers) i blankTransfer) in walked-carries (putAt v i y) (right-put v i y lt (refl, refl, refl) h))
 
   -- `status`
   pub status-carries : (v : View) (m : Lent) (s : ArqStatus) (block now : ℕ) → Carries v → Carries (statusOf v m s block now .state)

@@ -28,30 +28,30 @@ one [] e p = absurd (omega arith)
 one (x ∷ l) e p = some-here p
 
 -- the lent memory
-lends : Lent
+abbrev pub lends : Lent
 lends = record { octets = replicate 32640 0; words = replicate 3456 0 }
 
--- one transfer, a guard of a second, the first block 20
-v0 : View
-v0 = fresh 1 1000 20 100
+-- four transfers, a guard of a second, the first block 20
+abbrev pub sender : View
+sender = fresh 4 1000 20 100
 
 -- the constructor makes it
-is-fresh : Fresh v0
-unfolding newOf v0
-is-fresh = record { capacity = 1; guard = 1000; first-block = 20; first = 100; fits = omega arith; made = refl }
+pub made : Fresh sender
+unfolding newOf
+made = record { capacity = 4; guard = 1000; first-block = 20; first = 100; fits = omega arith; made = refl }
 
--- an order with this deadline
-req : ℕ → Request
-req d = record { identity = Tmsi20 1; channel = Arch; completion = 7; «deadline_ms» = d }
+-- an order to this identity with this deadline
+abbrev pub request : (i deadline : ℕ) → Request
+request i deadline = record { identity = Tmsi20 i; channel = Arch; completion = i; «deadline_ms» = deadline }
 
 -- it is sent
 c0 : Told
-c0 = (lends, Enqueue (req 5000) (65 ∷ []) 20 100)
+c0 = (lends, Enqueue (request 1 5000) (65 ∷ []) 20 100)
 
 -- echo 0 is taken
-takes-0 : Takes v0 c0 0 5000
-unfolding v0 c0 req lends encodable inRange same countOf freeEcho grantOf accepts enqueueOf
-takes-0 = one (after v0 c0 .transfers) refl (refl, refl, leb-true 100 100 refl)
+takes-0 : Takes sender c0 0 5000
+unfolding c0 encodable inRange same countOf freeEcho grantOf accepts enqueueOf
+takes-0 = one (after sender c0 .transfers) refl (refl, refl, leb-true 100 100 refl)
 
 -- so many restarts, from the echo k on
 turns : ℕ → ℕ → List Told
@@ -59,16 +59,16 @@ turns zero k = []
 turns (suc n) k = (lends, Interrupt k 20 100) ∷ turns n (suc k)
 
 -- by a restart the next
-takes-1 : Takes (after v0 c0) (lends, Interrupt 0 20 100) 1 5000
-unfolding v0 c0 req lends encodable inRange same countOf freeEcho grantOf accepts enqueueOf interruptOf walk step fateOf doneOf settleOf
-takes-1 = one (after (after v0 c0) (lends, Interrupt 0 20 100) .transfers) refl (refl, refl, leb-true 101 101 refl)
+takes-1 : Takes (after sender c0) (lends, Interrupt 0 20 100) 1 5000
+unfolding c0 encodable inRange same countOf freeEcho grantOf accepts enqueueOf interruptOf walk step fateOf doneOf settleOf
+takes-1 = one (after (after sender c0) (lends, Interrupt 0 20 100) .transfers) refl (refl, refl, leb-true 101 101 refl)
 
 -- after 127 restarts echo 0 again, 1000 ms after the deadline 5000
-takes-again : Takes (run (after v0 c0) (turns 127 0)) (lends, Enqueue (req 9000) (65 ∷ []) 20 6000) 0 9000
-unfolding v0 c0 req lends encodable inRange same countOf freeEcho grantOf accepts enqueueOf interruptOf walk step fateOf doneOf settleOf run turns
-takes-again = one (after (run (after v0 c0) (turns 127 0)) (lends, Enqueue (req 9000) (65 ∷ []) 20 6000) .transfers) refl (refl, refl, leb-true 228 228 refl)
+takes-again : Takes (run (after sender c0) (turns 127 0)) (lends, Enqueue (request 1 9000) (65 ∷ []) 20 6000) 0 9000
+unfolding c0 encodable inRange same countOf freeEcho grantOf accepts enqueueOf interruptOf walk step fateOf doneOf settleOf run turns
+takes-again = one (after (run (after sender c0) (turns 127 0)) (lends, Enqueue (request 1 9000) (65 ∷ []) 20 6000) .transfers) refl (refl, refl, leb-true 228 228 refl)
 
 -- and not before
-not-before : enqueueOf (run (after v0 c0) (turns 127 0)) lends (req 9000) (65 ∷ []) 20 5999 .outcome ≡ refuses 21
-unfolding v0 c0 req lends encodable inRange same countOf freeEcho grantOf accepts enqueueOf interruptOf walk step fateOf doneOf settleOf run turns
+not-before : enqueueOf (run (after sender c0) (turns 127 0)) lends (request 1 9000) (65 ∷ []) 20 5999 .outcome ≡ refuses 21
+unfolding c0 encodable inRange same countOf freeEcho grantOf accepts enqueueOf interruptOf walk step fateOf doneOf settleOf run turns
 not-before = refl

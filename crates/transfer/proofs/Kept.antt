@@ -9,19 +9,23 @@ use lib.Bits.{and-zero-r}
 use lib.Pow.{pow-pos, pow-mono}
 use native.Mathlib.Omega.{arith}
 use lib.Dec.{eqb, leb, ltb}
-use lib.ListN.{length, take, drop, getD, set, length-set, length-append, length-map}
+use lib.ListN.{length, take, drop, getD, length-set, length-append, length-map}
 use lib.Seq.{set-split}
 use borrow.Author.Tests.{eqb-true, eqb-false, eq-eqb, ne-eqb, leb-false, lt-leb, ltb-true, ltb-false, not-false}
 use Rattle.token.specs.Token.{stop, numberAfter, fewerThan}
 use Rattle.rach.specs.Identity.{typeOf, valueOf, same, encodable}
 use Rattle.rach.specs.declared.MobileIdentity.{MobileIdentity}
+use Rattle.rach.proofs.Laws.{both, same-equal}
 use Rattle.spach.specs.Header.{usageOf}
 use Rattle.spach.specs.Refusal.{Outcome, gives, refuses, refuse, After, onward}
 use Rattle.spach.proofs.Outcomes.{passed, then-gives}
 use Rattle.arq.specs.declared.ArqHeader.{ArqHeader}
 use Rattle.arq.specs.Cut.{continues, countOf}
 use Rattle.receiver.proofs.Ways.{by-bool}
+use Rattle.receiver.specs.declared.ArqStatus.{ArqStatus}
 use Rattle.transfer.specs.declared.TransferToken.{TransferToken}
+use Rattle.transfer.specs.declared.Confirmation.{Confirmation}
+use Rattle.transfer.specs.declared.Confirmation.the-variants.{NotFound}
 use Rattle.transfer.specs.declared.FrameToken.{FrameToken}
 use Rattle.transfer.specs.declared.Request.{Request}
 use Rattle.transfer.specs.declared.Parcel.{Parcel}
@@ -32,14 +36,15 @@ use Rattle.transfer.specs.declared.Since.the-variants.{Never, Block}
 use Rattle.transfer.specs.declared.Transfer.{Transfer}
 use Rattle.transfer.specs.declared.PreparedFrame.{PreparedFrame}
 use Rattle.transfer.specs.Lists.{position, any, removeAt, pushBack}
-use Rattle.transfer.specs.State.{Limits, Echoes, Clock, View, Lent, Out, fresh, newOf, short, ticked, admitted, says, refusal, goesOn, seek, ofGeneration, withClock, withTransfers, withEvents, withEchoes, withSelected, tokenTaken, blankTransfer, putAt, unselect, ended, cancelAt}
+use Rattle.transfer.specs.State.{Limits, Echoes, Clock, View, Lent, Out, fresh, newOf, short, ticked, admitted, says, refusal, goesOn, seek, ofEcho, ofGeneration, withClock, withTransfers, withEvents, withEchoes, withSelected, tokenTaken, blankTransfer, putAt, unselect, ended, cancelAt}
 use Rattle.transfer.specs.Echo.{freeEcho, heldUntil, hold}
-use Rattle.transfer.specs.Queue.{firstFrames, front}
-use Rattle.transfer.specs.Transfer.{headerOf, begun}
-use Rattle.transfer.specs.Advance.{overdue, kept}
+use Rattle.transfer.specs.Queue.{firstFrames, front, has}
+use Rattle.transfer.specs.Transfer.{headerOf, begun, wentOut}
+use Rattle.transfer.specs.Advance.{overdue, kept, walked}
 use Rattle.transfer.specs.Enqueue.{addressed, Grant, granted, allocated, grantOf, lowestFrom, lowestN, parcelOf, accepts, enqueueOf}
-use Rattle.transfer.specs.Prepare.{isReady}
-use Rattle.transfer.specs.Submitted.{isSelected, inFlight, handedIn, submittedAt, submittedOf}
+use Rattle.transfer.specs.Prepare.{isReady, choose, repeated, onlyEcho, prioritized, prioritizeAt}
+use Rattle.transfer.specs.Submitted.{isSelected, inFlight, handedIn, submittedAt, submittedOf, isOutstanding, confirmFrame, confirms, transmittedAt}
+use Rattle.transfer.specs.Status.{observes, statusAt}
 use Rattle.transfer.specs.Cancel.{cancelFirst, cancelOf, ownedBy, cancelTransactionOf, cancelAllOf}
 use Rattle.transfer.specs.Queries.{popFrom, popEventOf}
 use Rattle.transfer.specs.Invariant.{All, all-none, Some, Pairs, pairs-none, ByBlock, Accepted, SetsAgree, Live, Different, Chosen, Selected, Sound}
@@ -122,6 +127,27 @@ clock-kept v block ms hb hm h =
       counter = h .counter;
     }
 
+-- other transfers, events and selection, which are right
+pub listed-kept : (v : View) (l : List Transfer) (events : List Event) (s : Option PreparedFrame) → length l ≤ v .limits .capacity → length l + length events ≤ 2 * v .limits .capacity
+    → All (Live (v .limits) (v .clock) (v .echoes) (v .«next_token»)) l → Pairs (Different (v .clock)) l → Selected l (v .«next_token») s
+    → Sound v → Sound (withSelected (withEvents (withTransfers v l) events) s)
+listed-kept v l events s fits fit live different selected h = record {
+  some-capacity = h .some-capacity;
+  most-capacity = h .most-capacity;
+  live = fits;
+  accounted = fit;
+  echoes = h .echoes;
+  next-echo = h .next-echo;
+  transfers = live;
+  different = different;
+  selected = selected;
+  counter = h .counter;
+}
+
+-- another selection, which is right
+pub selected-kept : (v : View) (s : Option PreparedFrame) → Selected (v .transfers) (v .«next_token») s → Sound v → Sound (withSelected v s)
+selected-kept v s sel h = listed-kept v (v .transfers) (v .events) s (h .live) (h .accounted) (h .transfers) (h .different) sel h
+
 -- ---- one transfer is taken out
 
 -- a selected frame that is not of this generation is another's
@@ -141,28 +167,15 @@ removed-kept v place e lt h =
     let m : length (pushBack (v .events) e) ≡ suc (length (v .events)) = length-back (v .events) e in
     let a = h .live in
     let b = h .accounted in
-    record {
-      some-capacity = h .some-capacity;
-      most-capacity = h .most-capacity;
-      live = omega arith;
-      accounted = omega arith;
-      echoes = h .echoes;
-      next-echo = h .next-echo;
-      transfers = all-removed l place blankTransfer lt (h .transfers);
-      different = pairs-removed l place blankTransfer lt (h .different);
-      selected = selected-removed l place (v .«next_token») (getD l place blankTransfer) (v .selected) (λ f. some-removed l place blankTransfer lt) (h .selected);
-      counter = h .counter;
-    }
+    listed-kept v (removeAt place l) (pushBack (v .events) e) (unselect (getD l place blankTransfer .generation) (v .selected)) (omega arith) (omega arith)
+    (all-removed l place blankTransfer lt (h .transfers)) (pairs-removed l place blankTransfer lt (h .different))
+    (selected-removed l place (v .«next_token») (getD l place blankTransfer) (v .selected) (λ f. some-removed l place blankTransfer lt) (h .selected)) h
 
 -- a transfer is taken out, and Cancelled
 pub cancel-kept : (v : View) (place : ℕ) → place < length (v .transfers) → Sound v → Sound (cancelAt v place (getD (v .transfers) place blankTransfer))
 cancel-kept v place lt h = removed-kept v place _ lt h
 
 -- ---- one transfer changes, or moves
-
--- nothing is selected any more
-pub unselected-kept : (v : View) → Sound v → Sound (withSelected v none)
-unselected-kept v h = record { some-capacity = h .some-capacity; most-capacity = h .most-capacity; live = h .live; accounted = h .accounted; echoes = h .echoes; next-echo = h .next-echo; transfers = h .transfers; different = h .different; selected = tt; counter = h .counter }
 
 module _ (v : View) (place : ℕ) (y : Transfer) (a b : List Transfer) where
   abbrev there : Transfer
@@ -179,20 +192,12 @@ module _ (v : View) (place : ℕ) (y : Transfer) (a b : List Transfer) where
       let o : length (a ++ b) ≡ length (removeAt place l) = ap length e in
       let i = h .live in
       let j = h .accounted in
-      record {
-        some-capacity = h .some-capacity;
-        most-capacity = h .most-capacity;
-        live = omega arith;
-        accounted = omega arith;
-        echoes = h .echoes;
-        next-echo = h .next-echo;
-        transfers = all-in a y b live (subst (All (Live (v .limits) (v .clock) (v .echoes) (v .«next_token»))) (sym e) (all-removed l place blankTransfer lt (h .transfers)));
-        different = pairs-in (different-sym (v .clock)) a y b
-            (subst (All (Different (v .clock) y)) (sym e) (all-map (λ z. different-same (v .clock) there y z p g k) (pairs-at l place blankTransfer lt (different-sym (v .clock)) (h .different))))
-            (subst (Pairs (Different (v .clock))) (sym e) (pairs-removed l place blankTransfer lt (h .different)));
-        selected = sel;
-        counter = h .counter;
-      }
+      listed-kept v (a ++ y ∷ b) (v .events) s (omega arith) (omega arith)
+      (all-in a y b live (subst (All (Live (v .limits) (v .clock) (v .echoes) (v .«next_token»))) (sym e) (all-removed l place blankTransfer lt (h .transfers))))
+      (pairs-in (different-sym (v .clock)) a y b
+      (subst (All (Different (v .clock) y)) (sym e) (all-map (λ z. different-same (v .clock) there y z p g k) (pairs-at l place blankTransfer lt (different-sym (v .clock)) (h .different))))
+      (subst (Pairs (Different (v .clock))) (sym e) (pairs-removed l place blankTransfer lt (h .different))))
+      sel h
 
   selected-placed : (s : Option PreparedFrame) → place < length (v .transfers) → a ++ b ≡ removeAt place (v .transfers) → ((f : PreparedFrame) → Chosen f there → Chosen f y)
       → Selected (v .transfers) (v .«next_token») s → Selected (a ++ y ∷ b) (v .«next_token») s
@@ -212,16 +217,6 @@ module _ (v : View) (place : ℕ) (y : Transfer) (lt : place < length (v .transf
   pub changed-kept : ((f : PreparedFrame) → Chosen f (getD (v .transfers) place blankTransfer) → Chosen f y) → Sound v → Sound (putAt v place y)
   changed-kept c h = subst (λ l. Sound (withTransfers v l)) (sym (set-split (v .transfers) place y lt)) (moved-kept v place y (take place (v .transfers)) (drop (suc place) (v .transfers)) lt refl p g k live c h)
 
-  -- and with any selection that is right
-  pub changed-selecting : (s : Option PreparedFrame) → Selected (set (v .transfers) place y) (v .«next_token») s → Sound v → Sound (withSelected (putAt v place y) s)
-  changed-selecting s sel h =
-      subst (λ l. Sound (withSelected (withTransfers v l) s)) (sym (set-split (v .transfers) place y lt))
-      (placed-kept v place y (take place (v .transfers)) (drop (suc place) (v .transfers)) s lt refl p g k live (subst (λ l. Selected l (v .«next_token») s) (set-split (v .transfers) place y lt) sel) h)
-
-  -- and with none
-  pub changed-unselected : Sound v → Sound (withSelected (putAt v place y) none)
-  changed-unselected h = changed-selecting none tt h
-
   -- it goes to the front
   pub changed-front : ((f : PreparedFrame) → Chosen f (getD (v .transfers) place blankTransfer) → Chosen f y) → Sound v → Sound (withTransfers v (y ∷ removeAt place (v .transfers)))
   changed-front c h = moved-kept v place y [] (removeAt place (v .transfers)) lt refl p g k live c h
@@ -230,21 +225,13 @@ module _ (v : View) (place : ℕ) (y : Transfer) (lt : place < length (v .transf
   pub changed-front-selecting : (s : Option PreparedFrame) → Selected (y ∷ removeAt place (v .transfers)) (v .«next_token») s → Sound v → Sound (withSelected (withTransfers v (y ∷ removeAt place (v .transfers))) s)
   changed-front-selecting s sel h = placed-kept v place y [] (removeAt place (v .transfers)) s lt refl p g k live sel h
 
-  -- it goes to the back
-  pub changed-back : ((f : PreparedFrame) → Chosen f (getD (v .transfers) place blankTransfer) → Chosen f y) → Sound v → Sound (withTransfers v (pushBack (removeAt place (v .transfers)) y))
-  changed-back c h = moved-kept v place y (removeAt place (v .transfers)) [] lt (append-nil _) p g k live c h
-
-  -- there, with none selected
+  -- it goes to the back, and none is selected
   pub changed-back-unselected : Sound v → Sound (withSelected (withTransfers v (pushBack (removeAt place (v .transfers)) y)) none)
   changed-back-unselected h = placed-kept v place y (removeAt place (v .transfers)) [] none lt (append-nil _) p g k live tt h
 
 -- a transfer goes to the front
 pub front-kept : (v : View) (place : ℕ) → place < length (v .transfers) → Sound v → Sound (withTransfers v (getD (v .transfers) place blankTransfer ∷ removeAt place (v .transfers)))
 front-kept v place lt h = changed-front v place (getD (v .transfers) place blankTransfer) lt refl refl refl (all-at (v .transfers) place blankTransfer lt (h .transfers)) (λ f c. c) h
-
--- or to the back
-pub back-kept : (v : View) (place : ℕ) → place < length (v .transfers) → Sound v → Sound (withTransfers v (pushBack (removeAt place (v .transfers)) (getD (v .transfers) place blankTransfer)))
-back-kept v place lt h = changed-back v place (getD (v .transfers) place blankTransfer) lt refl refl refl (all-at (v .transfers) place blankTransfer lt (h .transfers)) (λ f c. c) h
 
 -- ---- an echo is held
 
@@ -341,18 +328,9 @@ pub joined-kept : (w : View) (x : Transfer) → Live (w .limits) (w .clock) (w .
     → length (w .transfers) < w .limits .capacity → length (w .transfers) + length (w .events) < 2 * w .limits .capacity → Sound w → Sound (kept w x)
 joined-kept w x live d a b h =
     let n : length (pushBack (w .transfers) x) ≡ suc (length (w .transfers)) = length-back (w .transfers) x in
-    record {
-      some-capacity = h .some-capacity;
-      most-capacity = h .most-capacity;
-      live = omega arith;
-      accounted = omega arith;
-      echoes = h .echoes;
-      next-echo = h .next-echo;
-      transfers = all-back (w .transfers) x live (h .transfers);
-      different = pairs-back (w .transfers) x (different-sym (w .clock)) d (h .different);
-      selected = selected-back (w .transfers) x (w .«next_token») (w .selected) (h .selected);
-      counter = h .counter;
-    }
+    listed-kept w (pushBack (w .transfers) x) (w .events) (w .selected) (omega arith) (omega arith)
+    (all-back (w .transfers) x live (h .transfers)) (pairs-back (w .transfers) x (different-sym (w .clock)) d (h .different))
+    (selected-back (w .transfers) x (w .«next_token») (w .selected) (h .selected)) h
 
 -- a parcel and an echo that are not those of a live transfer
 pub record Unlike (c : Clock) (p : Parcel) (echo : ℕ) (x : Transfer) : Type 0 where
@@ -430,6 +408,51 @@ seek-cases P test l nothing found a b =
     cond-cases P (ltb (position test l) (length l)) (found (position test l) (getD l (position test l) blankTransfer)) nothing
     (λ e. let lt = ltb-true (position test l) (length l) e in b (position test l) lt (position-found test blankTransfer l lt)) (λ e. a (position-none test l (ltb-false (position test l) (length l) e)))
 
+-- what `prepare_prioritized` does after its `advance`: nothing, or there is a transfer to put first, and then the choice or nothing
+pub prioritize-cases : (P : After (Option PreparedFrame) View → Type 0) (v : View) (octets : List ℕ) (echo : ℕ) → P (says none v)
+    → ((i : ℕ) → i < length (v .transfers) → let w = withSelected (withTransfers v (repeated (getD (v .transfers) i blankTransfer) ∷ removeAt i (v .transfers))) (onlyEcho echo (v .selected)) in P (choose w octets) × P (says none w))
+    → P (prioritizeAt v octets echo)
+unfolding prioritizeAt
+prioritize-cases P v octets echo h k =
+    seek-cases P (ofEcho echo) (v .transfers) (says none v) (prioritized v octets echo) (λ n. h)
+    (λ i lt t. let x = getD (v .transfers) i blankTransfer in
+    let w = withSelected (withTransfers v (repeated x ∷ removeAt i (v .transfers))) (onlyEcho echo (v .selected)) in
+    cond-cases P (isReady (repeated x)) (choose w octets) (says none w) (λ e. k i lt .0) (λ e. k i lt .1))
+
+-- what `submitted` does at the moved clock: it refuses, or the front of a transfer is handed in
+pub submit-cases : (P : Out Unit → Type 0) (v : View) (m : Lent) (t : FrameToken) → P (refusal 24 v m)
+    → ((i : ℕ) → i < length (v .transfers) → let x = getD (v .transfers) i blankTransfer in (isReady x && eqb (front (x .sets .queue)) (t .frame)) ≡ true → P (handedIn v m t i x))
+    → P (submittedAt v m t)
+unfolding submittedAt
+submit-cases P v m t h k =
+    cond-cases P (isSelected t (v .selected)) (seek (ofGeneration (t .generation)) (v .transfers) (refusal 24 v m) found) (refusal 24 v m)
+    (λ e. seek-cases P (ofGeneration (t .generation)) (v .transfers) (refusal 24 v m) found (λ n. h)
+    (λ i lt g. let x = getD (v .transfers) i blankTransfer in cond-cases P (isReady x && eqb (front (x .sets .queue)) (t .frame)) (handedIn v m t i x) (refusal 24 v m) (k i lt) (λ e. h))) (λ e. h)
+  where
+    found : ℕ → Transfer → Out Unit
+    found place x = cond (isReady x && eqb (front (x .sets .queue)) (t .frame)) (handedIn v m t place x) (refusal 24 v m)
+
+-- what `transmitted` does at the moved clock: nothing, or a frame that is outstanding is confirmed, and the sender walked
+pub confirm-cases : (P : View → Type 0) (v : View) (words : List ℕ) (t : FrameToken) → P v
+    → ((i : ℕ) → i < length (v .transfers) → let x = getD (v .transfers) i blankTransfer in isOutstanding t words x ≡ true → P (walked (putAt v i (confirmFrame (t .frame) x))))
+    → P (transmittedAt v words t .state)
+unfolding transmittedAt
+confirm-cases P v words t h k =
+    seek-cases {X = After Confirmation View} (λ a. P (a .state)) (ofGeneration (t .generation)) (v .transfers) (says NotFound v) (λ place x. cond (isOutstanding t words x) (confirms v t place x) (says NotFound v)) (λ n. h)
+    (λ i lt g. let x = getD (v .transfers) i blankTransfer in cond-cases {X = After Confirmation View} (λ a. P (a .state)) (isOutstanding t words x) (confirms v t i x) (says NotFound v) (k i lt) (λ e. h))
+
+-- what `status` does after its first `advance`: nothing, or a transfer observes it, and the sender is walked
+pub status-cases : (P : View → Type 0) (v : View) (s : ArqStatus) → P v
+    → ((i : ℕ) → i < length (v .transfers) → P (walked (putAt v i (observes (s .«received_frames») (v .clock .«last_block») (getD (v .transfers) i blankTransfer)))))
+    → P (statusAt v s .state)
+unfolding statusAt
+status-cases P v s h k =
+    seek-cases {X = After Bool View} (λ a. P (a .state)) (ofEcho (s .«partial_echo»)) (v .transfers) (says false v) (λ place x. cond (has (wentOut x) 0) (says true (walked (shown place x))) (says false v)) (λ n. h)
+    (λ i lt g. let x = getD (v .transfers) i blankTransfer in cond-cases {X = After Bool View} (λ a. P (a .state)) (has (wentOut x) 0) (says true (walked (shown i x))) (says false v) (λ e. k i lt) (λ e. h))
+  where
+    shown : ℕ → Transfer → View
+    shown place x = putAt v place (observes (s .«received_frames») (v .clock .«last_block») x)
+
 -- a call that goes on with what was let through, or refuses and leaves the state
 pub onward-cases : {A S : Type 0} (P : S → Type 0) (s : S) (o : Outcome S) (f : S → After A S) → P s → ((t : S) → o ≡ gives t → P (f t .state)) → P (onward s o f .state)
 onward-cases P s (gives t) f h k = k t refl
@@ -440,13 +463,10 @@ pub goes-cases : {A B : Type 0} (P : View → Type 0) (v : View) (m : Lent) (o :
 goes-cases P v m (gives a) f h k = k a refl
 goes-cases P v m (refuses n) f h k = h
 
-neither : (a b : Bool) → (a || b) ≡ false → (a ≡ false) × (b ≡ false)
+-- neither of two tests holds
+pub neither : (a b : Bool) → (a || b) ≡ false → (a ≡ false) × (b ≡ false)
 neither true b h = let z : _≡_ {A = ℕ} 0 1 = cc in absurd (omega arith)
 neither false b h = (refl, h)
-
-both : (a b : Bool) → (a && b) ≡ true → (a ≡ true) × (b ≡ true)
-both true b e = (refl, e)
-both false b e = let z : _≡_ {A = ℕ} 0 1 = cc in absurd (omega arith)
 
 not-zero : (n : ℕ) → eqb n 0 ≡ false → 1 ≤ n
 not-zero zero e = absurd (eqb-false 0 0 e refl)
@@ -619,10 +639,7 @@ grant-passes v r message {g} e =
 
 -- identities that are the same as one are the same as the other
 same-as : (a b c : MobileIdentity) → same a b ≡ true → same b c ≡ same a c
-unfolding same
-same-as a b c e =
-    let q = both (eqb (typeOf a) (typeOf b)) (eqb (valueOf a) (valueOf b)) e in
-    rw (eqb-true (typeOf a) (typeOf b) (q .0), eqb-true (valueOf a) (valueOf b) (q .1))
+same-as a b c e = ap (λ (x : MobileIdentity). same x c) (sym (same-equal a b e))
 
 -- the transfer that a granted request begins, in a sender without one to its identity
 module _ (v w : View) (r : Request) (message : List ℕ) (g : Grant) (p : Passes v r message g) (h : Sound w) where
@@ -720,24 +737,12 @@ enqueue-call-kept v m r message block now h =
 -- ---- submitted
 
 submitted-at-kept : (v : View) (m : Lent) (t : FrameToken) → Sound v → Sound (submittedAt v m t .sender)
-unfolding submittedAt
 submitted-at-kept v m t h =
-    cond-cases {X = Out Unit} P (isSelected t (v .selected)) (seek (ofGeneration (t .generation)) (v .transfers) (refusal 24 v m) found) (refusal 24 v m)
-    (λ e. seek-cases {X = Out Unit} P (ofGeneration (t .generation)) (v .transfers) (refusal 24 v m) found (λ n. h) at-place) (λ e. h)
-  where
-    P : Out Unit → Type 0
-    P o = Sound (o .sender)
-
-    found : ℕ → Transfer → Out Unit
-    found place x = cond (isReady x && eqb (front (x .sets .queue)) (t .frame)) (handedIn v m t place x) (refusal 24 v m)
-
-    at-place : (i : ℕ) → i < length (v .transfers) → ofGeneration (t .generation) (getD (v .transfers) i blankTransfer) ≡ true → P (found i (getD (v .transfers) i blankTransfer))
-    at-place i lt g =
-        let x = getD (v .transfers) i blankTransfer in
-        cond-cases {X = Out Unit} P (isReady x && eqb (front (x .sets .queue)) (t .frame)) (handedIn v m t i x) (refusal 24 v m)
-        (λ e. let q = both (isReady x) (eqb (front (x .sets .queue)) (t .frame)) e in
-        changed-back-unselected v i (inFlight (t .frame) (v .clock .«last_block») x) lt refl refl refl
-        (in-flight-live x (all-at (v .transfers) i blankTransfer lt (h .transfers)) (t .frame) (q .0) (sym (eqb-true (front (x .sets .queue)) (t .frame) (q .1)))) h) (λ e. h)
+    submit-cases (λ o. Sound (o .sender)) v m t h
+    (λ i lt e. let x = getD (v .transfers) i blankTransfer in
+    let q = both (isReady x) (eqb (front (x .sets .queue)) (t .frame)) e in
+    changed-back-unselected v i (inFlight (t .frame) (v .clock .«last_block») x) lt refl refl refl
+    (in-flight-live x (all-at (v .transfers) i blankTransfer lt (h .transfers)) (t .frame) (q .0) (sym (eqb-true (front (x .sets .queue)) (t .frame) (q .1)))) h)
 
 -- `submitted`
 pub submitted-call-kept : (v : View) (m : Lent) (t : FrameToken) (block now : ℕ) → Sound v → Sound (submittedOf v m t block now .sender)

@@ -1,4 +1,5 @@
 pub mod Alive
+pub mod Apart
 pub mod Around
 pub mod Asked
 pub mod Bitsets
@@ -8,6 +9,7 @@ pub mod Faithful
 pub mod Framed
 pub mod Frames
 pub mod Fresh
+pub mod Holds
 pub mod Instance
 pub mod Kept
 pub mod Listed

@@ -1,11 +1,10 @@
 -- Under one token one message is accepted, over any list of calls: the message that `Faithful` speaks of is the only one. Assumes nothing.
 use mathlib.Core.Path.{_≡_, sym, ap, subst, _∙_}
-use mathlib.Core.Bool.{Bool, true, false, cond, _&&_}
+use mathlib.Core.Bool.{Bool, true, false}
 use mathlib.Core.List.{List, [], _∷_, _++_, foldl}
 use mathlib.Core.Option.{Option, none, some}
 use Prim.Native.Nat.{ℕ, suc, _≤_}
 use native.Mathlib.Omega.{arith}
-use lib.Dec.{eqb}
 use lib.ListN.{getD}
 use Rattle.token.specs.Token.{stop}
 use Rattle.spach.specs.Refusal.{Outcome, gives, refuses, refuse, After}
@@ -20,23 +19,20 @@ use Rattle.transfer.specs.declared.FrameToken.{FrameToken}
 use Rattle.transfer.specs.declared.Request.{Request}
 use Rattle.transfer.specs.declared.Transfer.{Transfer}
 use Rattle.transfer.specs.declared.PreparedFrame.{PreparedFrame}
-use Rattle.transfer.specs.declared.Confirmation.{Confirmation}
-use Rattle.transfer.specs.declared.Confirmation.the-variants.{NotFound}
 use Rattle.transfer.specs.Lists.{removeAt}
-use Rattle.transfer.specs.Queue.{has, front}
-use Rattle.transfer.specs.State.{View, Lent, Out, withTransfers, withEchoes, withSelected, tokenTaken, short, ticked, admitted, says, refusal, goesOn, seek, blankTransfer, putAt, ofEcho, ofGeneration, cancelAt}
+use Rattle.transfer.specs.State.{View, Lent, Out, withTransfers, withEchoes, withSelected, tokenTaken, short, ticked, admitted, says, goesOn, blankTransfer, putAt, cancelAt}
 use Rattle.transfer.specs.Echo.{freeEcho, heldUntil, hold}
-use Rattle.transfer.specs.Transfer.{wentOut, begun}
+use Rattle.transfer.specs.Transfer.{begun}
 use Rattle.transfer.specs.Advance.{fateOf, kept, restart, landed, step, walk, unasked, walked, advanceOf}
 use Rattle.transfer.specs.Enqueue.{addressed, Grant, grantOf, lowestN, parcelOf, accepts, enqueueOf}
-use Rattle.transfer.specs.Prepare.{isReady, frontOf, selects, chooseFrom, choose, prepareOf, hasEchoOf, askedFor, interrupted, interruptOf, repeated, onlyEcho, prioritized, prioritizeAt, preparePrioritizedOf}
-use Rattle.transfer.specs.Submitted.{isSelected, handedIn, submittedAt, submittedOf, isOutstanding, confirmFrame, confirms, transmittedAt, transmittedOf}
+use Rattle.transfer.specs.Prepare.{isReady, frontOf, selects, chooseFrom, choose, prepareOf, hasEchoOf, askedFor, interrupted, interruptOf, repeated, onlyEcho, prioritizeAt, preparePrioritizedOf}
+use Rattle.transfer.specs.Submitted.{submittedAt, submittedOf, confirmFrame, transmittedAt, transmittedOf}
 use Rattle.transfer.specs.Status.{observes, statusAt, statusOf}
 use Rattle.transfer.specs.Cancel.{cancelFirst, cancelOf, cancelTransactionOf, cancelAllOf, ownedBy}
 use Rattle.transfer.specs.Refresh.{queueWaiting, oldestFirst, serveOldest, refreshWaitingOf}
 use Rattle.transfer.specs.Queries.{popFrom, popEventOf}
 use Rattle.transfer.specs.History.{Call, Enqueue, Advance, Prepare, Interrupt, PreparePrioritized, Submitted, Transmitted, Status, Cancel, CancelTransaction, CancelAll, RefreshWaiting, PopEvent, does, runAlone, AcceptedOnce}
-use Rattle.transfer.proofs.Kept.{cond-cases, seek-cases, onward-cases, goes-cases, ticked-gives, admitted-gives, admitted-tokens}
+use Rattle.transfer.proofs.Kept.{cond-cases, seek-cases, prioritize-cases, submit-cases, confirm-cases, status-cases, onward-cases, goes-cases, ticked-gives, admitted-gives, admitted-tokens}
 use Rattle.transfer.proofs.Lives.{fresh-kept}
 use Rattle.transfer.proofs.Carried.{out-cases}
 
@@ -112,53 +108,21 @@ module _ (n : ℕ) where
 
   -- what `prepare_prioritized` does after its `advance`
   prioritize-past : (v : View) (octets : List ℕ) (echo : ℕ) → Past v → Past (prioritizeAt v octets echo .state)
-  unfolding prioritizeAt
   prioritize-past v octets echo h =
-      seek-cases {X = After (Option PreparedFrame) View} P (ofEcho echo) (v .transfers) (says none v) (prioritized v octets echo) (λ k. h)
-      (λ i lt t. let x = getD (v .transfers) i blankTransfer in
-      let w = withSelected (withTransfers v (repeated x ∷ removeAt i (v .transfers))) (onlyEcho echo (v .selected)) in
-      cond-cases {X = After (Option PreparedFrame) View} P (isReady (repeated x)) (choose w octets) (says none w) (λ e. choose-past w octets h) (λ e. h))
-    where
-      P : After (Option PreparedFrame) View → Type 0
-      P a = Past (a .state)
+      prioritize-cases (λ a. Past (a .state)) v octets echo h
+      (λ i lt. (choose-past (withSelected (withTransfers v (repeated (getD (v .transfers) i blankTransfer) ∷ removeAt i (v .transfers))) (onlyEcho echo (v .selected))) octets h, h))
 
   -- what `submitted` does at the moved clock
   submitted-at-past : (v : View) (m : Lent) (t : FrameToken) → Past v → Past (submittedAt v m t .sender)
-  unfolding submittedAt
-  submitted-at-past v m t h =
-      cond-cases {X = Out Unit} P (isSelected t (v .selected)) (seek (ofGeneration (t .generation)) (v .transfers) (refusal 24 v m) found) (refusal 24 v m)
-      (λ e. seek-cases {X = Out Unit} P (ofGeneration (t .generation)) (v .transfers) (refusal 24 v m) found (λ k. h)
-      (λ i lt g. let x = getD (v .transfers) i blankTransfer in cond-cases {X = Out Unit} P (isReady x && eqb (front (x .sets .queue)) (t .frame)) (handedIn v m t i x) (refusal 24 v m) (λ q. h) (λ q. h))) (λ e. h)
-    where
-      P : Out Unit → Type 0
-      P o = Past (o .sender)
-
-      found : ℕ → Transfer → Out Unit
-      found place x = cond (isReady x && eqb (front (x .sets .queue)) (t .frame)) (handedIn v m t place x) (refusal 24 v m)
+  submitted-at-past v m t h = submit-cases (λ o. Past (o .sender)) v m t h (λ i lt q. h)
 
   -- what `transmitted` does at the moved clock
   confirm-past : (v : View) (words : List ℕ) (t : FrameToken) → Past v → Past (transmittedAt v words t .state)
-  unfolding transmittedAt
-  confirm-past v words t h =
-      seek-cases {X = After Confirmation View} P (ofGeneration (t .generation)) (v .transfers) (says NotFound v) (λ place x. cond (isOutstanding t words x) (confirms v t place x) (says NotFound v)) (λ k. h)
-      (λ i lt g. let x = getD (v .transfers) i blankTransfer in
-      cond-cases {X = After Confirmation View} P (isOutstanding t words x) (confirms v t i x) (says NotFound v) (λ e. walked-past (putAt v i (confirmFrame (t .frame) x)) h) (λ e. h))
-    where
-      P : After Confirmation View → Type 0
-      P a = Past (a .state)
+  confirm-past v words t h = confirm-cases Past v words t h (λ i lt e. walked-past (putAt v i (confirmFrame (t .frame) (getD (v .transfers) i blankTransfer))) h)
 
   -- what `status` does after its first `advance`
   shows-past : (v : View) (s : ArqStatus) → Past v → Past (statusAt v s .state)
-  unfolding statusAt
-  shows-past v s h =
-      seek-cases {X = After Bool View} P (ofEcho (s .«partial_echo»)) (v .transfers) (says false v) (λ place x. cond (has (wentOut x) 0) (says true (walked (shown-at place x))) (says false v)) (λ k. h)
-      (λ i lt g. let x = getD (v .transfers) i blankTransfer in cond-cases {X = After Bool View} P (has (wentOut x) 0) (says true (walked (shown-at i x))) (says false v) (λ e. walked-past (shown-at i x) h) (λ e. h))
-    where
-      P : After Bool View → Type 0
-      P a = Past (a .state)
-
-      shown-at : ℕ → Transfer → View
-      shown-at place x = putAt v place (observes (s .«received_frames») (v .clock .«last_block») x)
+  shows-past v s h = status-cases Past v s h (λ i lt. walked-past (putAt v i (observes (s .«received_frames») (v .clock .«last_block») (getD (v .transfers) i blankTransfer))) h)
 
   -- the first that passes is Cancelled
   cancel-first-past : (p : Transfer → Bool) (v : View) → Past v → Past (cancelFirst p v .state)

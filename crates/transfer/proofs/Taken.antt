@@ -1,7 +1,7 @@
 -- Which echoes a call takes, and what that makes of any list of calls from a fresh sender. Assumes nothing.
 use mathlib.Core.Path.{_≡_, refl, sym, ap, subst, _∙_}
 use mathlib.Core.Logic.{_⊎_, inl, inr, ⊎-elim}
-use mathlib.Core.Bool.{Bool, true, false, cond, _&&_, _||_}
+use mathlib.Core.Bool.{Bool, true, false, cond, _||_}
 use mathlib.Core.List.{List, [], _∷_, _++_, map, foldl, append-nil, append-assoc}
 use mathlib.Core.Option.{Option, none, some}
 use Prim.Native.Nat.{ℕ, suc, _+_, _≤_, _<_}
@@ -27,17 +27,14 @@ use Rattle.transfer.specs.declared.FrameToken.{FrameToken}
 use Rattle.transfer.specs.declared.Request.{Request}
 use Rattle.transfer.specs.declared.Transfer.{Transfer}
 use Rattle.transfer.specs.declared.PreparedFrame.{PreparedFrame}
-use Rattle.transfer.specs.declared.Confirmation.{Confirmation}
-use Rattle.transfer.specs.declared.Confirmation.the-variants.{NotFound}
 use Rattle.transfer.specs.Lists.{removeAt, pushBack}
-use Rattle.transfer.specs.Queue.{has, front}
-use Rattle.transfer.specs.State.{Limits, Echoes, Clock, View, Lent, Out, withTransfers, withEchoes, withSelected, tokenTaken, short, ticked, admitted, says, refusal, goesOn, seek, blankTransfer, putAt, ofEcho, ofGeneration, ended, cancelAt}
+use Rattle.transfer.specs.State.{Limits, Echoes, Clock, View, Lent, withTransfers, withEchoes, withSelected, tokenTaken, short, ticked, admitted, says, goesOn, blankTransfer, putAt, ended, cancelAt}
 use Rattle.transfer.specs.Echo.{freeEcho, heldUntil, hold}
-use Rattle.transfer.specs.Transfer.{wentOut, doneOf, settleOf, restartDue, begun}
+use Rattle.transfer.specs.Transfer.{doneOf, settleOf, restartDue, begun}
 use Rattle.transfer.specs.Advance.{overdue, fateOf, kept, restart, landed, step, walk, unasked, walked, advanceOf}
 use Rattle.transfer.specs.Enqueue.{addressed, Grant, grantOf, accepts, enqueueOf, parcelOf, lowestN}
-use Rattle.transfer.specs.Prepare.{isReady, frontOf, selects, chooseFrom, choose, prepareOf, hasEchoOf, askedFor, interrupted, interruptOf, repeated, onlyEcho, prioritized, prioritizeAt, preparePrioritizedOf}
-use Rattle.transfer.specs.Submitted.{isSelected, inFlight, handedIn, submittedAt, submittedOf, isOutstanding, confirmFrame, confirms, transmittedAt, transmittedOf}
+use Rattle.transfer.specs.Prepare.{isReady, frontOf, selects, chooseFrom, choose, prepareOf, hasEchoOf, askedFor, interrupted, interruptOf, repeated, onlyEcho, prioritizeAt, preparePrioritizedOf}
+use Rattle.transfer.specs.Submitted.{inFlight, handedIn, submittedAt, submittedOf, confirmFrame, transmittedAt, transmittedOf}
 use Rattle.transfer.specs.Status.{observes, statusAt, statusOf}
 use Rattle.transfer.specs.Cancel.{cancelFirst, cancelOf, ownedBy, cancelTransactionOf, cancelAllOf}
 use Rattle.transfer.specs.Refresh.{refreshed, queueWaiting, oldest, oldestFirst, serveOldest, refreshWaitingOf}
@@ -47,7 +44,7 @@ use Rattle.transfer.specs.History.{Call, Enqueue, Advance, Prepare, Inte
 use Rattle.transfer.proofs.Listed.{all-map, all-both, all-one, all-rest, all-in, all-at, all-removed, all-back, some-map, some-all}
 use Rattle.transfer.proofs.Alive.{SameParcel, settled-parcel, repeated-parcel, refreshed-parcel}
 use Rattle.transfer.proofs.Around.{free-now, held-after, held-other}
-use Rattle.transfer.proofs.Kept.{cond-cases, seek-cases, onward-cases, goes-cases, ticked-gives, admitted-gives, admitted-kept, admitted-tokens, Passes, grant-passes}
+use Rattle.transfer.proofs.Kept.{cond-cases, seek-cases, prioritize-cases, submit-cases, confirm-cases, status-cases, onward-cases, goes-cases, ticked-gives, admitted-gives, admitted-kept, admitted-tokens, Passes, grant-passes}
 use Rattle.transfer.proofs.Walked.{behind, step-kept, step-near, transfersOf, unasked-all, asked-for-all}
 use Rattle.transfer.proofs.Calls.{admitted-walked-kept, admitted-walked-tokens, put-confirmed-kept, outstanding-frame, put-observed-kept}
 use Rattle.transfer.proofs.Lives.{after-kept, fresh-kept, runs-kept}
@@ -334,19 +331,12 @@ interrupt-careful v m echo block now h =
 
 -- what `prepare_prioritized` does after its `advance`
 prioritize-within : (v : View) (octets : List ℕ) (echo : ℕ) → Part v (prioritizeAt v octets echo .state)
-unfolding prioritizeAt
-prioritize-within v octets echo = seek-cases {X = After (Option PreparedFrame) View} P (ofEcho echo) (v .transfers) (says none v) (prioritized v octets echo) (λ n. self v) found
-  where
-    P : After (Option PreparedFrame) View → Type 0
-    P a = Part v (a .state)
-
-    found : (i : ℕ) → i < length (v .transfers) → ofEcho echo (getD (v .transfers) i blankTransfer) ≡ true → P (prioritized v octets echo i (getD (v .transfers) i blankTransfer))
-    found i lt t =
-        let x = getD (v .transfers) i blankTransfer in
-        let w = withSelected (withTransfers v (repeated x ∷ removeAt i (v .transfers))) (onlyEcho echo (v .selected)) in
-        let s : Part v w = quiet v w refl refl refl (front-of v i (repeated x) lt (repeated-parcel x)) in
-        cond-cases {X = After (Option PreparedFrame) View} P (isReady (repeated x)) (choose w octets) (says none w)
-        (λ e. then (v .clock .«last_ms») v w (choose w octets .state) s (choose-within w octets)) (λ e. s)
+prioritize-within v octets echo =
+    prioritize-cases (λ a. Part v (a .state)) v octets echo (self v)
+    (λ i lt. let x = getD (v .transfers) i blankTransfer in
+    let w = withSelected (withTransfers v (repeated x ∷ removeAt i (v .transfers))) (onlyEcho echo (v .selected)) in
+    let s : Part v w = quiet v w refl refl refl (front-of v i (repeated x) lt (repeated-parcel x)) in
+    (then (v .clock .«last_ms») v w (choose w octets .state) s (choose-within w octets), s))
 
 -- `prepare_prioritized`
 prepare-prioritized-careful : (v : View) (m : Lent) (echo block now : ℕ) → Sound v → Careful v (preparePrioritizedOf v m echo block now .state)
@@ -357,22 +347,10 @@ prepare-prioritized-careful v m echo block now h =
 
 -- what `submitted` does at the moved clock
 submitted-at-within : (v : View) (m : Lent) (t : FrameToken) → Part v (submittedAt v m t .sender)
-unfolding submittedAt
 submitted-at-within v m t =
-    cond-cases {X = Out Unit} P (isSelected t (v .selected)) (seek (ofGeneration (t .generation)) (v .transfers) (refusal 24 v m) found) (refusal 24 v m)
-    (λ e. seek-cases {X = Out Unit} P (ofGeneration (t .generation)) (v .transfers) (refusal 24 v m) found (λ n. self v) at-place) (λ e. self v)
-  where
-    P : Out Unit → Type 0
-    P o = Part v (o .sender)
-
-    found : ℕ → Transfer → Out Unit
-    found place x = cond (isReady x && eqb (front (x .sets .queue)) (t .frame)) (handedIn v m t place x) (refusal 24 v m)
-
-    at-place : (i : ℕ) → i < length (v .transfers) → ofGeneration (t .generation) (getD (v .transfers) i blankTransfer) ≡ true → P (found i (getD (v .transfers) i blankTransfer))
-    at-place i lt g =
-        let x = getD (v .transfers) i blankTransfer in
-        cond-cases {X = Out Unit} P (isReady x && eqb (front (x .sets .queue)) (t .frame)) (handedIn v m t i x) (refusal 24 v m)
-        (λ e. quiet v (handedIn v m t i x .sender) refl refl refl (back-of v i (inFlight (t .frame) (v .clock .«last_block») x) lt (refl, refl, refl))) (λ e. self v)
+    submit-cases (λ o. Part v (o .sender)) v m t (self v)
+    (λ i lt e. let x = getD (v .transfers) i blankTransfer in
+    quiet v (handedIn v m t i x .sender) refl refl refl (back-of v i (inFlight (t .frame) (v .clock .«last_block») x) lt (refl, refl, refl)))
 
 -- `submitted`
 submitted-careful : (v : View) (m : Lent) (t : FrameToken) (block now : ℕ) → Careful v (submittedOf v m t block now .sender)
@@ -384,21 +362,11 @@ submitted-careful v m t block now =
 
 -- what `transmitted` does at the moved clock
 confirm-within : (v : View) (words : List ℕ) (t : FrameToken) → v .«next_token» + 128 ≤ stop → Sound v → Part v (transmittedAt v words t .state)
-unfolding transmittedAt
-confirm-within v words t room h = seek-cases {X = After Confirmation View} P (ofGeneration (t .generation)) (v .transfers) (says NotFound v) at (λ n. self v) found
-  where
-    P : After Confirmation View → Type 0
-    P a = Part v (a .state)
-
-    at : ℕ → Transfer → After Confirmation View
-    at place x = cond (isOutstanding t words x) (confirms v t place x) (says NotFound v)
-
-    found : (i : ℕ) → i < length (v .transfers) → ofGeneration (t .generation) (getD (v .transfers) i blankTransfer) ≡ true → P (at i (getD (v .transfers) i blankTransfer))
-    found i lt g =
-        let x = getD (v .transfers) i blankTransfer in
-        let w = putAt v i (confirmFrame (t .frame) x) in
-        cond-cases {X = After Confirmation View} P (isOutstanding t words x) (confirms v t i x) (says NotFound v)
-        (λ e. then (v .clock .«last_ms») v w (walked w) (put-within v i (confirmFrame (t .frame) x) lt (refl, refl, refl)) (walked-within w room (put-confirmed-kept v i (t .frame) x lt refl (outstanding-frame t words x e) h))) (λ e. self v)
+confirm-within v words t room h =
+    confirm-cases (Part v) v words t (self v)
+    (λ i lt e. let x = getD (v .transfers) i blankTransfer in
+    let w = putAt v i (confirmFrame (t .frame) x) in
+    then (v .clock .«last_ms») v w (walked w) (put-within v i (confirmFrame (t .frame) x) lt (refl, refl, refl)) (walked-within w room (put-confirmed-kept v i (t .frame) x lt refl (outstanding-frame t words x e) h)))
 
 -- `transmitted`
 transmitted-careful : (v : View) (m : Lent) (t : FrameToken) (block now : ℕ) → Sound v → Careful v (transmittedOf v m t block now .state)
@@ -409,24 +377,12 @@ transmitted-careful v m t block now h =
 
 -- what `status` does after its first `advance`
 shows-within : (v : View) (s : ArqStatus) → v .«next_token» + 128 ≤ stop → Sound v → Part v (statusAt v s .state)
-unfolding statusAt
-shows-within v s room h = seek-cases {X = After Bool View} P (ofEcho (s .«partial_echo»)) (v .transfers) (says false v) at (λ n. self v) found
-  where
-    P : After Bool View → Type 0
-    P a = Part v (a .state)
-
-    shown-at : ℕ → Transfer → View
-    shown-at place x = putAt v place (observes (s .«received_frames») (v .clock .«last_block») x)
-
-    at : ℕ → Transfer → After Bool View
-    at place x = cond (has (wentOut x) 0) (says true (walked (shown-at place x))) (says false v)
-
-    found : (i : ℕ) → i < length (v .transfers) → ofEcho (s .«partial_echo») (getD (v .transfers) i blankTransfer) ≡ true → P (at i (getD (v .transfers) i blankTransfer))
-    found i lt t =
-        let x = getD (v .transfers) i blankTransfer in
-        let w = shown-at i x in
-        cond-cases {X = After Bool View} P (has (wentOut x) 0) (says true (walked w)) (says false v)
-        (λ e. then (v .clock .«last_ms») v w (walked w) (put-within v i (observes (s .«received_frames») (v .clock .«last_block») x) lt (refl, refl, refl)) (walked-within w room (put-observed-kept v i (s .«received_frames») x lt refl h))) (λ e. self v)
+shows-within v s room h =
+    status-cases (Part v) v s (self v)
+    (λ i lt. let x = getD (v .transfers) i blankTransfer in
+    let y = observes (s .«received_frames») (v .clock .«last_block») x in
+    let w = putAt v i y in
+    then (v .clock .«last_ms») v w (walked w) (put-within v i y lt (refl, refl, refl)) (walked-within w room (put-observed-kept v i (s .«received_frames») x lt refl h)))
 
 -- `status`
 status-careful : (v : View) (m : Lent) (s : ArqStatus) (block now : ℕ) → Sound v → Careful v (statusOf v m s block now .state)
@@ -560,7 +516,7 @@ run-holds v (c ∷ l) h =
     (r .0 ∙ k .limits, λ echo. let a = k .holds echo in let b = r .1 echo in omega arith)
 
 -- of each call, from a Sound sender of these limits
-each-sound : {P : View → Told → Type 0} (l : Limits) → ((u : View) (c : Told) → Sound u → u .limits ≡ l → P u c) → (v : View) (calls : List Told) → Sound v → v .limits ≡ l → Each P v calls
+pub each-sound : {P : View → Told → Type 0} (l : Limits) → ((u : View) (c : Told) → Sound u → u .limits ≡ l → P u c) → (v : View) (calls : List Told) → Sound v → v .limits ≡ l → Each P v calls
 unfolding Each
 each-sound l f v [] h e = tt
 each-sound l f v (c ∷ calls) h e = (f v c h e, each-sound l f (after v c) calls (sound v c h) (careful v c h .limits ∙ e))

@@ -4,7 +4,7 @@ use mathlib.Core.Logic.{_≢_}
 use mathlib.Core.Bool.{Bool, true, false, cond, _||_}
 use mathlib.Core.List.{List, [], _∷_, _++_, foldl, append-nil, append-assoc}
 use mathlib.Core.Option.{Option, none, some}
-use Prim.Native.Nat.{ℕ, zero, suc, _+_, _≤_, _<_}
+use Prim.Native.Nat.{ℕ, suc, _+_, _≤_, _<_}
 use native.Mathlib.Omega.{arith}
 use lib.ListN.{length, getD}
 use Rattle.token.specs.Token.{stop, numberAfter}
@@ -21,7 +21,6 @@ use Rattle.transfer.specs.Echo.{freeEcho, heldUntil, hold}
 use Rattle.transfer.specs.Transfer.{doneOf, settleOf, restartDue, begun}
 use Rattle.transfer.specs.Advance.{overdue, fateOf, kept, restart, landed, step, walk, unasked, walked}
 use Rattle.transfer.specs.Prepare.{askedFor}
-use Rattle.transfer.specs.Sought.{askedAt}
 use Rattle.transfer.specs.Invariant.{All, Live, Different, Chosen, Selected, Sound}
 use Rattle.transfer.proofs.Around.{free-now}
 use Rattle.transfer.proofs.Listed.{all-map, all-both, all-one, all-rest, all-in, some-in, pairs-one, pairs-in, length-in}
@@ -211,12 +210,6 @@ pub unasked-all : (l : List Transfer) → transfersOf (unasked l) ≡ l
 unasked-all [] = refl
 unasked-all (x ∷ l) = ap (λ (m : List Transfer). x ∷ m) (unasked-all l)
 
--- that of the transfer at a place
-pub asked-at-all : (place : ℕ) (l : List Transfer) → transfersOf (askedAt place l) ≡ l
-asked-at-all place [] = refl
-asked-at-all zero (x ∷ l) = ap (λ (m : List Transfer). x ∷ m) (unasked-all l)
-asked-at-all (suc place) (x ∷ l) = ap (λ (m : List Transfer). x ∷ m) (asked-at-all place l)
-
 -- that of the first transfer of an echo
 pub asked-for-all : (echo : ℕ) (l : List Transfer) → transfersOf (askedFor echo l) ≡ l
 asked-for-all echo [] = refl
@@ -259,10 +252,6 @@ pub walked-near : (v : View) → Sound v → Near 128 v (walked v)
 unfolding walked
 walked-near v h = walks-near v (unasked (v .transfers)) (unasked-all (v .transfers)) h
 
--- with the restart asked for of the transfer at a place
-pub asked-at-kept : (v : View) (place : ℕ) → v .«next_token» + 128 ≤ stop → Sound v → Sound (walk v (askedAt place (v .transfers)))
-asked-at-kept v place room h = walks-kept v (askedAt place (v .transfers)) (asked-at-all place (v .transfers)) room h
-
--- or of the first transfer of an echo
+-- with the restart asked for of the first transfer of an echo
 pub asked-for-kept : (v : View) (echo : ℕ) → v .«next_token» + 128 ≤ stop → Sound v → Sound (walk v (askedFor echo (v .transfers)))
 asked-for-kept v echo room h = walks-kept v (askedFor echo (v .transfers)) (asked-for-all echo (v .transfers)) room h

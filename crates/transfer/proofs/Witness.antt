@@ -17,36 +17,24 @@ use Rattle.arq.specs.declared.PackedFrame.{PackedFrame}
 use Rattle.arq.specs.Frame.{packed, beginFrame, continueFrame}
 use Rattle.arq.specs.Encode.{encodeOf}
 use Rattle.arq.specs.Cut.{countOf, frameOf}
-use Rattle.transfer.specs.declared.Request.{Request}
 use Rattle.transfer.specs.declared.Transfer.{Transfer}
 use Rattle.transfer.specs.declared.PreparedFrame.{PreparedFrame}
-use Rattle.transfer.specs.State.{View, Lent, fresh, newOf}
 use Rattle.transfer.specs.Echo.{freeEcho}
 use Rattle.transfer.specs.Transfer.{headerOf, doneOf, settleOf}
 use Rattle.transfer.specs.Advance.{fateOf, step, walk, walked}
 use Rattle.transfer.specs.Enqueue.{grantOf, accepts, enqueueOf}
 use Rattle.transfer.specs.Prepare.{packedOf, choose, prepareOf, prioritizeAt, preparePrioritizedOf}
-use Rattle.transfer.specs.History.{Call, Enqueue, Prepare, PreparePrioritized, does, Fresh, runAlone, IsFrameOf, Traced}
+use Rattle.transfer.specs.History.{Call, Enqueue, Prepare, PreparePrioritized, does, runAlone, IsFrameOf, Traced}
 use Rattle.transfer.proofs.Faithful.{faithful}
-
--- a sender, and what it is lent
-abbrev sender : View
-sender = fresh 4 1000 0 100
-
-abbrev lent : Lent
-lent = record { octets = replicate 32640 0; words = replicate 3456 0 }
-
--- a request to identity i
-abbrev request : (i : ℕ) → Request
-request i = record { identity = Tmsi20 i; channel = Arch; completion = i; «deadline_ms» = 5000 }
+use Rattle.transfer.proofs.Instance.{lends, sender, made, request}
 
 -- two messages are accepted, and the first one's frame is selected
 calls : List Call
-calls = Enqueue (request 1) (66 ∷ 67 ∷ []) 10 100 ∷ Enqueue (request 2) (65 ∷ []) 10 100 ∷ Prepare 10 100 ∷ []
+calls = Enqueue (request 1 5000) (66 ∷ 67 ∷ []) 20 100 ∷ Enqueue (request 2 5000) (65 ∷ []) 20 100 ∷ Prepare 20 100 ∷ []
 
 -- the second one's is asked for by its echo
 call : Call
-call = PreparePrioritized 1 11 100
+call = PreparePrioritized 1 21 100
 
 -- the frame
 frame : PreparedFrame
@@ -57,19 +45,14 @@ frame = record {
   «partial_echo» = 1;
 }
 
--- the sender is one that the constructor made
-made : Fresh sender
-unfolding newOf
-made = record { capacity = 4; guard = 1000; first-block = 0; first = 100; fits = omega arith; made = refl }
-
 -- it is prepared
-prepared : let at = runAlone sender lent calls in does (at .0) (at .1) call .frame ≡ some frame
+prepared : let at = runAlone sender lends calls in does (at .0) (at .1) call .frame ≡ some frame
 unfolding calls call frame runAlone octets bitsOf bits value layout upTo anySet same inRange encodable packed beginFrame continueFrame encodeOf countOf frameOf ones onesIn trailingZeros freeEcho doneOf settleOf fateOf step walk walked grantOf accepts enqueueOf packedOf choose prepareOf prioritizeAt preparePrioritizedOf
 prepared = refl
 
 -- and traced
-traced : let at = runAlone sender lent calls in Traced sender lent calls (does (at .0) (at .1) call .sender) frame
-traced = faithful sender lent calls call frame made prepared
+traced : let at = runAlone sender lends calls in Traced sender lends calls (does (at .0) (at .1) call .sender) frame
+traced = faithful sender lends calls call frame made prepared
 
 -- the octets of an encoded frame
 abbrev octetsOf : Outcome PackedFrame → List ℕ
@@ -77,7 +60,7 @@ octetsOf (gives p) = p .octets
 octetsOf (refuses n) = []
 
 -- but not to the first one's message: the frame is none of its cut
-not-other : (x : Transfer) → IsFrameOf frame x (request 2) (66 ∷ 67 ∷ []) → ⊥
+not-other : (x : Transfer) → IsFrameOf frame x (request 2 5000) (66 ∷ 67 ∷ []) → ⊥
 unfolding frame octets bitsOf bits value layout upTo anySet same inRange encodable packed beginFrame encodeOf frameOf
 not-other x h = go (h .polling) (subst (λ e. andThen (frameOf (headerOf Arch e (h .polling)) (Tmsi20 2) (66 ∷ 67 ∷ []) 0) encodeOf ≡ gives (record { octets = frame .octets })) (sym (h .echo)) (h .octets))
   where

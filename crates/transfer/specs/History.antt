@@ -1,12 +1,13 @@
--- What holds over any list of calls from a fresh sender. Read `Call`, `does` and `Takes`; then the claims: `TakenFree`,
+-- What holds over any list of calls from a fresh sender. Read `Call`, `does` and `Takes`; then the claims: `OnlyTaken`, `TakenFree`,
 -- `NoneBefore` and `TakenTwice` of one sender, `TwoSenders` of two, and `AcceptedOnce` and `Faithful` of the frames. They are
--- proved in proofs/Taken.antt, Once.antt and Faithful.antt; Instance.antt and Witness.antt show that they are not empty.
+-- proved in proofs/Holds.antt, Taken.antt, Once.antt and Faithful.antt; Instance.antt and Witness.antt show that they are not empty.
 -- Assumes nothing.
 use mathlib.Core.Path.{_≡_}
+use mathlib.Core.Logic.{_≢_}
 use mathlib.Core.Bool.{Bool}
 use mathlib.Core.List.{List, [], _∷_, _++_}
 use mathlib.Core.Option.{Option, none, some}
-use Prim.Native.Nat.{ℕ, _+_, _≤_}
+use Prim.Native.Nat.{ℕ, _≤_}
 use lib.ListN.{getD}
 use Rattle.token.specs.Token.{stop}
 use Rattle.rach.specs.declared.MobileIdentity.{MobileIdentity}
@@ -126,6 +127,11 @@ holdOf v echo = getD (v .echoes .«echo_until_ms») echo 0
 -- was not given out before
 abbrev pub Takes : View → Told → (echo deadline : ℕ) → Type 0
 Takes v c echo deadline = Some (λ x. (x .echo ≡ echo) × (x .parcel .«deadline_ms» ≡ deadline) × (v .«next_token» ≤ x .generation .0)) (after v c .transfers)
+
+-- an echo's hold changes only when it is taken
+abbrev pub OnlyTaken : Type 0
+OnlyTaken = (v : View) (calls : List Told) → Fresh v →
+    Each (λ u c. (echo : ℕ) → holdOf (after u c) echo ≢ holdOf u echo → (deadline : ℕ) × Takes u c echo deadline) v calls
 
 -- an echo is taken only if it is held until now or earlier, and is then held until deadline plus guard
 abbrev pub TakenFree : Type 0

@@ -1,10 +1,12 @@
-//! Links the port, the static library that `rt staticlib script` writes.
+//! Links the port, the static libraries that `rt staticlib` writes.
 use std::{
     env,
     path::{Path, PathBuf},
 };
 
 const OVERRIDE: &str = "SCRIPT_LIB_DIR";
+/// The crates that export something.
+const LIBRARIES: [&str; 2] = ["script", "script_sender"];
 
 fn main() {
     let here = env::var("CARGO_MANIFEST_DIR").expect("cargo sets it");
@@ -12,14 +14,16 @@ fn main() {
         || Path::new(&here).join("../../../target/staticlib"),
         PathBuf::from,
     );
-    let archive = folder.join("libscript.a");
-    assert!(
-        archive.exists(),
-        "{} is missing: run `rt staticlib script` first, or name its folder in {OVERRIDE}",
-        archive.display()
-    );
     println!("cargo::rustc-link-search=native={}", folder.display());
-    println!("cargo::rustc-link-lib=static=script");
-    println!("cargo::rerun-if-changed={}", archive.display());
     println!("cargo::rerun-if-env-changed={OVERRIDE}");
+    for library in LIBRARIES {
+        let archive = folder.join(format!("lib{library}.a"));
+        assert!(
+            archive.exists(),
+            "{} is missing: run `rt staticlib {library}` first, or name its folder in {OVERRIDE}",
+            archive.display()
+        );
+        println!("cargo::rustc-link-lib=static={library}");
+        println!("cargo::rerun-if-changed={}", archive.display());
+    }
 }

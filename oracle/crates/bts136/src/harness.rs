@@ -2,5 +2,6 @@
 mod numbered;
 pub mod opened;
 pub mod script;
+pub mod sending;
 pub mod timing;
 pub mod wire;

@@ -1,14 +1,9 @@
 //! The interpreter on answers computed by hand from the README and the layout of a frame.
 use bts136::harness::script::{END, END_CUT, END_NO_ROOM, END_UNKNOWN, OPERATIONS, operation, run};
 
-fn octets(hex: &str) -> Vec<u8> {
-    let digits: Vec<u8> = hex.bytes().filter(|digit| *digit != b' ').collect();
-    let digits = String::from_utf8(digits).unwrap();
-    (0..digits.len())
-        .step_by(2)
-        .map(|at| u8::from_str_radix(&digits[at..at + 2], 16).unwrap())
-        .collect()
-}
+mod hex;
+use hex::octets;
+
 /// Runs a script in ample room: the answers and nothing else, the end octet after them.
 #[track_caller]
 fn answers(script: &str, expected: &str) {

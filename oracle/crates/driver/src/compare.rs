@@ -1,6 +1,8 @@
 //! Random scripts through both sides, and every octet that they answer compared.
 use crate::{generate, hex::hex, port, random::Random};
-use bts136::harness::script::{self, ANSWERED, OPERATIONS, Operation, Step};
+use bts136::harness::script::{
+    self, ANSWERED, END, END_CUT, END_NO_ROOM, END_UNKNOWN, OPERATIONS, Operation, Step,
+};
 use std::{collections::BTreeMap, process::ExitCode};
 
 /// Octets before and after the room for the answers, which nobody may write.
@@ -45,10 +47,20 @@ impl Case {
     }
     /// The original's steps and answers, or what differs.
     pub fn compare(&self) -> Result<(Vec<Step>, Answers), String> {
+        self.between(
+            |script, room, steps| script::run_each(script, room, |step| steps.push(step)),
+            port::run,
+        )
+    }
+    /// The same of two sides that are handed in, the first of which tells its steps.
+    pub fn between<M>(
+        &self,
+        original: impl FnOnce(&[u8], &mut [u8], &mut Vec<Step<M>>) -> usize,
+        port: impl FnOnce(&[u8], &mut [u8]) -> usize,
+    ) -> Result<(Vec<Step<M>>, Answers), String> {
         let mut steps = Vec::new();
-        let original =
-            self.answers(|script, room| script::run_each(script, room, |step| steps.push(step)));
-        let port = self.answers(port::run);
+        let original = self.answers(|script, room| original(script, room, &mut steps));
+        let port = self.answers(port);
         if original == port {
             return Ok((steps, original));
         }
@@ -68,8 +80,8 @@ impl Case {
         Answers { buffer, length }
     }
     /// Names what the original has at this octet of the buffer, and what both answered there.
-    fn place(&self, steps: &[Step], at: usize, original: &Answers, port: &Answers) -> String {
-        let found = |step: &Step| at >= GUARD && step.answer.contains(&(at - GUARD));
+    fn place<M>(&self, steps: &[Step<M>], at: usize, original: &Answers, port: &Answers) -> String {
+        let found = |step: &Step<M>| at >= GUARD && step.answer.contains(&(at - GUARD));
         if let Some(index) = steps.iter().position(found) {
             return self.answer(index, &steps[index], original, port);
         }
@@ -85,7 +97,13 @@ impl Case {
             port.shown(at, 1)
         )
     }
-    fn answer(&self, index: usize, step: &Step, original: &Answers, port: &Answers) -> String {
+    fn answer<M>(
+        &self,
+        index: usize,
+        step: &Step<M>,
+        original: &Answers,
+        port: &Answers,
+    ) -> String {
         let start = GUARD + step.answer.start;
         // Where the port's answer ends is known of a refusal alone.
         let most = match port.buffer[start] {
@@ -137,10 +155,10 @@ impl Answers {
         let end = start + returned.clamp(1, most);
         hex(&self.buffer[start..end.min(self.buffer.len())])
     }
-    fn number(&self, step: &Step) -> u8 {
+    fn number<M>(&self, step: &Step<M>) -> u8 {
         self.answer(step)[0]
     }
-    pub fn answer(&self, step: &Step) -> &[u8] {
+    pub fn answer<M>(&self, step: &Step<M>) -> &[u8] {
         &self.buffer[GUARD + step.answer.start..GUARD + step.answer.end]
     }
     /// `None` if there was no room for it.
@@ -159,7 +177,7 @@ pub struct Tally {
     ends: BTreeMap<Option<u8>, u64>,
 }
 impl Tally {
-    pub fn add(&mut self, steps: &[Step], answers: &Answers) {
+    pub fn add<M>(&mut self, steps: &[Step<M>], answers: &Answers) {
         self.scripts += 1;
         self.operations += steps.len() as u64;
         *self.ends.entry(answers.end()).or_default() += 1;
@@ -167,6 +185,34 @@ impl Tally {
             let key = (step.operation.op, answers.number(step));
             *self.numbers.entry(key).or_default() += 1;
         }
+    }
+    /// A whole script, whose answers these are.
+    pub fn add_steps<M>(&mut self, steps: &[Step<M>], answers: &[u8]) {
+        self.scripts += 1;
+        self.operations += steps.len() as u64;
+        for step in steps {
+            let key = (step.operation.op, answers[step.answer.start]);
+            *self.numbers.entry(key).or_default() += 1;
+        }
+    }
+    /// The number octets of these rows that were not seen.
+    pub fn missing<M>(&self, rows: &[Operation<M>]) -> Vec<String> {
+        let numbers = rows.iter().flat_map(|row| {
+            let numbers = [ANSWERED].iter().chain(row.refusals);
+            numbers.map(move |number| (row, *number))
+        });
+        numbers
+            .filter(|(row, number)| !self.numbers.contains_key(&(row.op, *number)))
+            .map(|(row, number)| format!("{} {number}", row.name))
+            .collect()
+    }
+    /// The ends that were not seen: each end octet, and none at all.
+    pub fn missing_ends(&self) -> Vec<String> {
+        let octets = [END, END_CUT, END_UNKNOWN, END_NO_ROOM].map(Some);
+        let ends = octets.into_iter().chain([None]);
+        ends.filter(|end| !self.ends.contains_key(end))
+            .map(|end| format!("end {end:02x?}"))
+            .collect()
     }
     /// Only the operations and number octets that were seen.
     pub fn print_seen(&self) {
@@ -182,6 +228,9 @@ impl Tally {
     }
     fn print(&self) {
         OPERATIONS.iter().for_each(|row| self.print_operation(row));
+        self.print_ends();
+    }
+    pub fn print_ends(&self) {
         print!("end octets:");
         for (end, count) in &self.ends {
             match end {
@@ -191,7 +240,7 @@ impl Tally {
         }
         println!();
     }
-    pub fn print_operation(&self, operation: &Operation) {
+    pub fn print_operation<M>(&self, operation: &Operation<M>) {
         let numbers = [ANSWERED].iter().chain(operation.refusals);
         let counts = numbers.map(|number| {
             let count = self.numbers.get(&(operation.op, *number));

@@ -8,11 +8,12 @@ mod make;
 mod port;
 mod random;
 mod receive;
+mod senders;
 mod time;
 
 use std::{env, path::Path, process::ExitCode};
 
-const USAGE: &str = "usage: driver compare SEED COUNT | receive SEED COUNT | lives SEED COUNT | exhaust SEED | make FOLDER | time";
+const USAGE: &str = "usage: driver compare SEED COUNT | receive SEED COUNT | lives SEED COUNT | senders SEED COUNT [--dry] | exhaust SEED | make FOLDER | make-senders FOLDER | time";
 
 fn main() -> ExitCode {
     let arguments: Vec<String> = env::args().skip(1).collect();
@@ -21,8 +22,11 @@ fn main() -> ExitCode {
         ["compare", seed, count] => counted(compare::main, seed, count),
         ["receive", seed, count] => counted(receive::main, seed, count),
         ["lives", seed, count] => counted(lives::main, seed, count),
+        ["senders", seed, count] => counted(|s, c| senders::main(s, c, false), seed, count),
+        ["senders", seed, count, "--dry"] => counted(|s, c| senders::main(s, c, true), seed, count),
         ["exhaust", seed] => seed.parse().map_or_else(|_| usage(), exhaust::main),
         ["make", folder] => make::main(Path::new(folder)),
+        ["make-senders", folder] => make::senders(Path::new(folder)),
         ["time"] => time::main(),
         _ => usage(),
     }

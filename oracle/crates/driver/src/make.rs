@@ -1,4 +1,4 @@
-//! The fixed script of the program `replay`, and the original's answers to it.
+//! The fixed scripts of the programs `replay` and `replay_sender`, and the original's answers to them.
 use crate::{
     generate::{
         MESSAGE_EIGHTHS, append, decode_operands, encoded, frames, identity_bounds,
@@ -6,29 +6,40 @@ use crate::{
     },
     hex::hex,
     random::Random,
+    senders::Memory,
 };
 use bts136::harness::{
     script::{
         self, ACCEPT, ADDRESS, CHECK, COMPLETE, COPY, COUNT, DECODE, DECODE_OCTETS, DUMP, ENCODE,
         END, EQUAL, FIELD_BITS, FILL, FRAME, HEADER_A, LAST_ADDRESS, LAST_HEADER_A, MESSAGE, NEW,
-        OPERATIONS, PARTS, PUSH, PUT, RESET, STATUS, STORE_BITS, TAKE,
+        OPERATIONS, PARTS, PUSH, PUT, RESET, STATUS, STORE_BITS, TAKE, sender::run_sender,
     },
     wire::{self, FRAME_OCTETS, HEADER_OCTETS, PARSED_OCTETS},
 };
 use std::{collections::BTreeSet, fs, io, path::Path, process::ExitCode};
 
 mod lives;
+mod senders;
 
 const SEED: u64 = 136;
-/// What `replay` has room for, script and answers alike.
+/// What the programs have room for, script and answers alike.
 const MOST_OCTETS: usize = 32_000;
 const RANDOM_OPERATIONS: usize = 100;
 const LINE_OCTETS: usize = 32;
 
 pub fn main(folder: &Path) -> ExitCode {
-    let script = fixed_script();
-    let answers = answers(&script);
-    match write(folder, &script, &answers) {
+    made(folder, &fixed_script(), script::run)
+}
+/// The script of senders.
+pub fn senders(folder: &Path) -> ExitCode {
+    made(folder, &senders::fixed_script(), |script, answers| {
+        Memory::default().lent_to(run_sender, script, answers)
+    })
+}
+type Run = fn(&[u8], &mut [u8]) -> usize;
+fn made(folder: &Path, script: &[u8], run: Run) -> ExitCode {
+    let answers = answers(script, run);
+    match write(folder, script, &answers) {
         Ok(()) => {
             println!("{} octets, {} answered", script.len(), answers.len());
             ExitCode::SUCCESS
@@ -45,10 +56,10 @@ fn write(folder: &Path, script: &[u8], answers: &[u8]) -> io::Result<()> {
     let lines = answers.chunks(LINE_OCTETS).map(|line| hex(line) + "\n");
     fs::write(folder.join("stdout"), lines.collect::<String>())
 }
-fn answers(script: &[u8]) -> Vec<u8> {
+fn answers(script: &[u8], run: Run) -> Vec<u8> {
     assert!(script.len() <= MOST_OCTETS);
     let mut answers = vec![0; MOST_OCTETS];
-    let length = script::run(script, &mut answers);
+    let length = run(script, &mut answers);
     answers.truncate(length);
     assert_eq!(answers.last(), Some(&END), "the whole script was run");
     answers

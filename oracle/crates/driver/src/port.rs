@@ -5,6 +5,16 @@ mod raw {
     unsafe extern "C" {
         pub fn script_run(script: *const u8, length: usize, answers: *mut u8, room: usize)
         -> usize;
+        pub fn sender_run(
+            script: *const u8,
+            length: usize,
+            answers: *mut u8,
+            room: usize,
+            octets: *mut u8,
+            octets_length: usize,
+            words: *mut u64,
+            words_length: usize,
+        ) -> usize;
         pub fn time_take(
             octets: *const u8,
             length: usize,
@@ -57,6 +67,25 @@ pub fn run(script: &[u8], answers: &mut [u8]) -> usize {
             script.len(),
             answers.as_mut_ptr(),
             answers.len(),
+        )
+    }
+}
+pub fn sender_run(
+    script: &[u8],
+    answers: &mut [u8],
+    octets: &mut [u8],
+    words: &mut [u64],
+) -> usize {
+    unsafe {
+        raw::sender_run(
+            script.as_ptr(),
+            script.len(),
+            answers.as_mut_ptr(),
+            answers.len(),
+            octets.as_mut_ptr(),
+            octets.len(),
+            words.as_mut_ptr(),
+            words.len(),
         )
     }
 }

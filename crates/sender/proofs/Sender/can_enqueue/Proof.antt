@@ -5,8 +5,8 @@ use borrow.Author.Needs.{needs}
 use lib.ListN.{length}
 use Rattle.transfer.specs.Echo.{freeAnswer}
 use Rattle.sender.specs.Arrays.{viewOf}
-use Rattle.sender.proofs.Asking.{live-counted, events-counted, too-soon, too-many, too-full, no-echo, an-echo}
-use Rattle.sender.proofs.Shifts.{unmapped}
+use Rattle.sender.proofs.Asking.{too-soon, too-many, too-full, no-echo, an-echo}
+use Rattle.sender.proofs.Slots.{unmapped, live-counted, events-counted}
 use Rattle.sender.proofs.Sender.can_enqueue.Statement.{statement}
 use Rattle.sender.proofs.Sender.can_enqueue.Tie as tie
 

@@ -1,7 +1,7 @@
 -- `sender::Sender::cancel_all` meets its contract. Assumes nothing.
 use Rattle.transfer.proofs.Kept.{cancel-all-call-kept}
 use Rattle.sender.specs.Arrays.{viewOf}
-use Rattle.sender.proofs.Asking.{whole-by}
+use Rattle.sender.proofs.Slots.{whole-by}
 use Rattle.sender.proofs.Sender.cancel_all.Statement.{statement}
 use Rattle.sender.proofs.Sender.cancel_all.Tie as tie
 

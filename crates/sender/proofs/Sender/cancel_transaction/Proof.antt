@@ -1,12 +1,8 @@
 -- `sender::Sender::cancel_transaction` meets its contract. Assumes nothing.
-use mathlib.Core.Path.{ap}
-use mathlib.Core.Bool.{Bool}
-use Rattle.spach.specs.Refusal.{After}
 use Rattle.transfer.specs.Cancel.{cancelTransactionOf}
-use Rattle.transfer.specs.State.{View}
 use Rattle.transfer.proofs.Kept.{cancel-transaction-call-kept}
 use Rattle.sender.specs.Arrays.{viewOf}
-use Rattle.sender.proofs.Asking.{whole-by}
+use Rattle.sender.proofs.Slots.{whole-after}
 use Rattle.sender.proofs.Sender.cancel_transaction.Statement.{statement}
 use Rattle.sender.proofs.Sender.cancel_transaction.Tie as tie
 
@@ -18,7 +14,7 @@ unfolding cancelTransactionOf
 returns c =
     let b = c .before in
     let e = c .cancel-first .ensures in
-    (e .1, whole-by (e .0) (ap (λ (r : After Bool View). r .state) (e .1)) (cancel-transaction-call-kept (viewOf (b .args .self)) (b .args .token) (b .pre .sound)))
+    whole-after (e .0) (e .1) (cancel-transaction-call-kept (viewOf (b .args .self)) (b .args .token) (b .pre .sound))
 
 pub cancel-transaction-spec : {M : Type 1} → statement M
 cancel-transaction-spec = tie.close (tie.spec cancel-first-requires returns)

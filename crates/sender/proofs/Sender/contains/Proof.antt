@@ -1,7 +1,7 @@
 -- `sender::Sender::contains` meets its contract. Assumes nothing.
 use Rattle.transfer.specs.Enqueue.{addressed}
 use Rattle.sender.specs.Arrays.{viewOf}
-use Rattle.sender.proofs.Asking.{held-any}
+use Rattle.sender.proofs.Found.{held-any}
 use Rattle.sender.proofs.Sender.contains.Statement.{statement}
 use Rattle.sender.proofs.Sender.contains.Tie as tie
 

@@ -1,7 +1,7 @@
 -- `sender::Sender::has_echo` meets its contract. Assumes nothing.
 use Rattle.transfer.specs.State.{ofEcho}
 use Rattle.sender.specs.Arrays.{viewOf}
-use Rattle.sender.proofs.Asking.{held-any}
+use Rattle.sender.proofs.Found.{held-any}
 use Rattle.sender.proofs.Sender.has_echo.Statement.{statement}
 use Rattle.sender.proofs.Sender.has_echo.Tie as tie
 

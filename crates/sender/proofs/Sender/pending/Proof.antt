@@ -1,8 +1,7 @@
 -- `sender::Sender::pending` meets its contract. Assumes nothing.
 use mathlib.Core.Path.{sym}
 use borrow.Author.Needs.{needs}
-use Rattle.sender.proofs.Asking.{live-counted}
-use Rattle.sender.proofs.Shifts.{unmapped}
+use Rattle.sender.proofs.Slots.{unmapped, live-counted}
 use Rattle.sender.proofs.Sender.pending.Statement.{statement}
 use Rattle.sender.proofs.Sender.pending.Tie as tie
 

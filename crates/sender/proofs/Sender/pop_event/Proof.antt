@@ -4,10 +4,8 @@ use Prim.Native.Nat.{_<_}
 use native.Mathlib.Omega.{arith}
 use borrow.Author.Needs.{needs}
 use lib.ListN.{length, drop, getD}
-use Rattle.spach.specs.Refusal.{After}
 use Rattle.transfer.specs.declared.Event.{Event}
 use Rattle.transfer.specs.declared.Event.the-variants.{Complete}
-use Rattle.transfer.specs.declared.NextEvent.{NextEvent}
 use Rattle.transfer.specs.declared.NextEvent.the-variants as nexts
 use Rattle.transfer.specs.Queries.{popEventOf}
 use Rattle.transfer.specs.State.{View, withEvents, says}
@@ -15,8 +13,8 @@ use Rattle.transfer.proofs.Kept.{pop-event-call-kept}
 use Rattle.sender.specs.declared.EventSlot.{EventSlot}
 use Rattle.sender.specs.declared.Sender.{Sender}
 use Rattle.sender.specs.Arrays.{viewOf}
-use Rattle.sender.proofs.Asking.{whole-by, events-counted, first-read, pop-none, pop-first}
-use Rattle.sender.proofs.Shifts.{unmapped}
+use Rattle.sender.proofs.Asking.{first-read, pop-none, pop-first}
+use Rattle.sender.proofs.Slots.{unmapped, events-counted, whole-after}
 use Rattle.sender.proofs.Sender.pop_event.Statement.{statement}
 use Rattle.sender.proofs.Sender.pop_event.Tie as tie
 
@@ -56,7 +54,7 @@ returns-2 c =
     let s = b .args .t1 in
     let n = waiting b in
     let said = taken s (omega arith) (omega arith) (c .popped .ensures .1) in
-    (said, whole-by (c .popped .ensures .0) (ap (λ (r : After NextEvent View). r .state) said) (pop-event-call-kept (viewOf s) (b .pre .sound)))
+    whole-after (c .popped .ensures .0) said (pop-event-call-kept (viewOf s) (b .pre .sound))
 
 pub pop-event-spec : {M : Type 1} → statement M
 pop-event-spec = tie.close (tie.spec returns element-copy-out-slot popped-requires returns-2)

@@ -2,7 +2,7 @@
 use Rattle.transfer.specs.declared.Transfer.{Transfer}
 use Rattle.transfer.specs.Transfer.{isSet}
 use Rattle.sender.specs.Arrays.{viewOf}
-use Rattle.sender.proofs.Asking.{held-any}
+use Rattle.sender.proofs.Found.{held-any}
 use Rattle.sender.proofs.Sender.radio_active.Statement.{statement}
 use Rattle.sender.proofs.Sender.radio_active.Tie as tie
 

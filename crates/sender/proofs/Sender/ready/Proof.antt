@@ -1,7 +1,7 @@
 -- `sender::Sender::ready` meets its contract. Assumes nothing.
 use Rattle.transfer.specs.Prepare.{isReady}
 use Rattle.sender.specs.Arrays.{viewOf}
-use Rattle.sender.proofs.Asking.{held-any}
+use Rattle.sender.proofs.Found.{held-any}
 use Rattle.sender.proofs.Sender.ready.Statement.{statement}
 use Rattle.sender.proofs.Sender.ready.Tie as tie
 

@@ -1,21 +1,21 @@
 -- `sender::Sender::refresh_waiting` meets its contract. Assumes nothing.
 use mathlib.Core.Path.{_≡_, ap, _∙_}
 use borrow.Author.Needs.{needs}
-use Rattle.spach.specs.Refusal.{After}
 use Rattle.transfer.specs.Advance.{walked}
 use Rattle.transfer.specs.Refresh.{queueWaiting, serveOldest, refreshWaitingOf}
-use Rattle.transfer.specs.State.{View, says}
+use Rattle.transfer.specs.State.{says}
 use Rattle.transfer.proofs.Calls.{refresh-waiting-call-kept}
 use Rattle.sender.specs.Arrays.{viewOf, lent}
-use Rattle.sender.proofs.Admitted.{whole-by, clock-whole, asked, turned-back, goes-on, through-kept, through-walked, walked-by}
+use Rattle.sender.proofs.Admitted.{asked, Through, turned-back, goes-on, walked-by, through-whole, walked-whole}
+use Rattle.sender.proofs.Slots.{whole-after}
 use Rattle.sender.proofs.Sender.refresh_waiting.Statement.{statement}
 use Rattle.sender.proofs.Sender.refresh_waiting.Tie as tie
 
 short-requires : tie.Need-short-requires
-short-requires c κs = search needs
+short-requires c κs = tt
 
 admit-requires : tie.Need-admit-requires
-admit-requires c κs = search needs
+admit-requires c κs = tt
 
 enum-known-verdict : tie.Need-enum-known-verdict
 enum-known-verdict c = search needs
@@ -31,21 +31,18 @@ returns c =
 enum-told : tie.Need-enum-told
 enum-told c = search needs
 
-walk-requires : tie.Need-walk-requires
+-- the sender is let through
+through : (c : tie.After-enum-told) → let a = c .before .before .before .before .before .before .args in Through (a .self) (a .store .now) (a .words .now) (a .block) (a .now-ms)
 unfolding viewOf
-walk-requires c κs =
-    let b = c .before .before .before .before .before .before in
-    let a = b .args in
-    let k = asked (viewOf (a .self)) (a .store .now) (a .words .now) (a .block) (a .now-ms) (c .before .before .before .short .ensures) (c .before .before .admit .ensures) (c .enum-told .given .1) in
-    clock-whole (a .self) (a .block) (a .now-ms) (b .pre) (through-kept k (b .pre .sound))
+through c =
+    let a = c .before .before .before .before .before .before .args in
+    asked (viewOf (a .self)) (a .store .now) (a .words .now) (a .block) (a .now-ms) (c .before .before .before .short .ensures) (c .before .before .admit .ensures) (c .enum-told .given .1)
+
+walk-requires : tie.Need-walk-requires
+walk-requires c κs = through-whole (through c) (c .before .before .before .before .before .before .pre)
 
 queue-waiting-requires : tie.Need-queue-waiting-requires
-unfolding viewOf
-queue-waiting-requires c κs =
-    let b = c .before .before .before .before .before .before .before in
-    let a = b .args in
-    let k = asked (viewOf (a .self)) (a .store .now) (a .words .now) (a .block) (a .now-ms) (c .before .before .before .before .short .ensures) (c .before .before .before .admit .ensures) (c .before .enum-told .given .1) in
-    whole-by (c .walk .result) (c .walk .ensures .0) (walked-by k (b .pre .sound) (c .walk .ensures .1)) (through-walked k (b .pre .sound))
+queue-waiting-requires c κs = walked-whole (through (c .before)) (c .before .before .before .before .before .before .before .pre) (c .walk .ensures .0) (c .walk .ensures .1)
 
 serve-oldest-requires : tie.Need-serve-oldest-requires
 serve-oldest-requires c κs = search needs
@@ -55,11 +52,11 @@ unfolding viewOf refreshWaitingOf
 returns-2 c =
     let b = c .before .before .before .before .before .before .before .before .before in
     let a = b .args in
-    let k = asked (viewOf (a .self)) (a .store .now) (a .words .now) (a .block) (a .now-ms) (c .before .before .before .before .before .before .short .ensures) (c .before .before .before .before .before .admit .ensures) (c .before .before .before .enum-told .given .1) in
+    let k = through (c .before .before .before) in
     let e = walked-by k (b .pre .sound) (c .before .before .walk .ensures .1) in
     let p : says tt (viewOf (c .serve-oldest .result)) ≡ refreshWaitingOf (viewOf (a .self)) (lent (a .store .now) (a .words .now)) (a .block) (a .now-ms) =
     ap (says tt) (c .serve-oldest .ensures .1 ∙ ap serveOldest (c .before .queue-waiting .ensures .1 ∙ ap queueWaiting e)) ∙ goes-on k (λ w. says tt (serveOldest (queueWaiting (walked w)))) in
-    (p, whole-by (c .serve-oldest .result) (c .serve-oldest .ensures .0) (ap (λ (x : After Unit View). x .state) p) (refresh-waiting-call-kept (viewOf (a .self)) (lent (a .store .now) (a .words .now)) (a .block) (a .now-ms) (b .pre .sound)))
+    whole-after (c .serve-oldest .ensures .0) p (refresh-waiting-call-kept (viewOf (a .self)) (lent (a .store .now) (a .words .now)) (a .block) (a .now-ms) (b .pre .sound))
 
 pub refresh-waiting-spec : {M : Type 1} → statement M
 refresh-waiting-spec =

@@ -1,23 +1,22 @@
 -- `sender::Sender::status` meets its contract. Assumes nothing.
 use mathlib.Core.Path.{_≡_, ap, _∙_}
-use mathlib.Core.Bool.{Bool}
 use borrow.Author.Needs.{needs}
-use Rattle.spach.specs.Refusal.{After}
 use Rattle.transfer.specs.Advance.{walked}
 use Rattle.transfer.specs.State.{View}
 use Rattle.transfer.specs.Status.{statusAt, statusOf}
 use Rattle.transfer.proofs.Calls.{status-call-kept}
 use Rattle.sender.specs.Answers.{sought}
 use Rattle.sender.specs.Arrays.{viewOf, lent}
-use Rattle.sender.proofs.Admitted.{whole-by, clock-whole, asked, turned-back, goes-on, through-kept, through-walked, walked-by}
+use Rattle.sender.proofs.Admitted.{asked, Through, turned-back, goes-on, walked-by, through-whole, walked-whole}
+use Rattle.sender.proofs.Slots.{whole-after}
 use Rattle.sender.proofs.Sender.status.Statement.{statement}
 use Rattle.sender.proofs.Sender.status.Tie as tie
 
 short-requires : tie.Need-short-requires
-short-requires c κs = search needs
+short-requires c κs = tt
 
 admit-requires : tie.Need-admit-requires
-admit-requires c κs = search needs
+admit-requires c κs = tt
 
 enum-known-verdict : tie.Need-enum-known-verdict
 enum-known-verdict c = search needs
@@ -33,31 +32,28 @@ returns c =
 enum-told : tie.Need-enum-told
 enum-told c = search needs
 
-walk-requires : tie.Need-walk-requires
+-- the sender is let through
+through : (c : tie.After-enum-told) → let a = c .before .before .before .before .before .before .args in Through (a .self) (a .store .now) (a .words .now) (a .block) (a .now-ms)
 unfolding viewOf
-walk-requires c κs =
-    let b = c .before .before .before .before .before .before in
-    let a = b .args in
-    let k = asked (viewOf (a .self)) (a .store .now) (a .words .now) (a .block) (a .now-ms) (c .before .before .before .short .ensures) (c .before .before .admit .ensures) (c .enum-told .given .1) in
-    clock-whole (a .self) (a .block) (a .now-ms) (b .pre) (through-kept k (b .pre .sound))
+through c =
+    let a = c .before .before .before .before .before .before .args in
+    asked (viewOf (a .self)) (a .store .now) (a .words .now) (a .block) (a .now-ms) (c .before .before .before .short .ensures) (c .before .before .admit .ensures) (c .enum-told .given .1)
+
+walk-requires : tie.Need-walk-requires
+walk-requires c κs = through-whole (through c) (c .before .before .before .before .before .before .pre)
 
 shows-requires : tie.Need-shows-requires
-unfolding viewOf
-shows-requires c κs =
-    let b = c .before .before .before .before .before .before .before in
-    let a = b .args in
-    let k = asked (viewOf (a .self)) (a .store .now) (a .words .now) (a .block) (a .now-ms) (c .before .before .before .before .short .ensures) (c .before .before .before .admit .ensures) (c .before .enum-told .given .1) in
-    whole-by (c .walk .result) (c .walk .ensures .0) (walked-by k (b .pre .sound) (c .walk .ensures .1)) (through-walked k (b .pre .sound))
+shows-requires c κs = walked-whole (through (c .before)) (c .before .before .before .before .before .before .before .pre) (c .walk .ensures .0) (c .walk .ensures .1)
 
 returns-2 : tie.Need-returns-2
 unfolding viewOf statusOf
 returns-2 c =
     let b = c .before .before .before .before .before .before .before .before in
     let a = b .args in
-    let k = asked (viewOf (a .self)) (a .store .now) (a .words .now) (a .block) (a .now-ms) (c .before .before .before .before .before .short .ensures) (c .before .before .before .before .admit .ensures) (c .before .before .enum-told .given .1) in
+    let k = through (c .before .before) in
     let p : sought (c .shows .result) ≡ statusOf (viewOf (a .self)) (lent (a .store .now) (a .words .now)) (a .status) (a .block) (a .now-ms) =
     c .shows .ensures .1 ∙ (ap (λ (u : View). statusAt u (a .status)) (walked-by k (b .pre .sound) (c .before .walk .ensures .1)) ∙ goes-on k (λ w. statusAt (walked w) (a .status))) in
-    (p, whole-by (c .shows .result .sender) (c .shows .ensures .0) (ap (λ (x : After Bool View). x .state) p) (status-call-kept (viewOf (a .self)) (lent (a .store .now) (a .words .now)) (a .status) (a .block) (a .now-ms) (b .pre .sound)))
+    whole-after (c .shows .ensures .0) p (status-call-kept (viewOf (a .self)) (lent (a .store .now) (a .words .now)) (a .status) (a .block) (a .now-ms) (b .pre .sound))
 
 pub status-spec : {M : Type 1} → statement M
 status-spec =

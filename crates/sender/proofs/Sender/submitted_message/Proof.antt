@@ -1,7 +1,6 @@
 -- `sender::Sender::submitted_message` meets its contract. Assumes nothing.
 use mathlib.Core.Path.{_≡_, sym, ap, _∙_}
 use mathlib.Core.Bool.{Bool, true, false, cond}
-use borrow.Author.Needs.{needs}
 use borrow.Author.Tests.{not-true, not-false}
 use Prim.Native.Nat.{ℕ}
 use Rattle.transfer.specs.declared.CompletionAnswer.{CompletionAnswer}
@@ -15,7 +14,7 @@ use Rattle.transfer.specs.State.{View, ofGeneration}
 use Rattle.transfer.specs.Submitted.{submittedMessageOf}
 use Rattle.transfer.specs.Transfer.{wentOut}
 use Rattle.sender.specs.Arrays.{viewOf}
-use Rattle.sender.proofs.Chosen.{seek-found, seek-none}
+use Rattle.sender.proofs.Found.{seek-found, seek-none}
 use Rattle.sender.proofs.Sender.submitted_message.Statement.{statement}
 use Rattle.sender.proofs.Sender.submitted_message.Tie as tie
 
@@ -27,7 +26,7 @@ module _ (v : View) (t : FrameToken) {r : Place} (e : r ≡ placeOf (ofGeneratio
   -- no transfer has the generation
   message-none : r .held ≡ false → completions.Nothing ≡ submittedMessageOf v t
   unfolding submittedMessageOf told
-  message-none h = sym (seek-none (ofGeneration (t .generation)) (v .transfers) completions.Nothing told e h)
+  message-none h = seek-none (ofGeneration (t .generation)) (v .transfers) completions.Nothing told e h
 
   -- the one that has it, by the numbers of its frames and of those that went out
   message-found : (out : ℕ) (all : Bool) → r .held ≡ true → out ≡ wentOut (r .transfer) → full (r .transfer .parcel .frames) out ≡ all →
@@ -35,8 +34,8 @@ module _ (v : View) (t : FrameToken) {r : Place} (e : r ≡ placeOf (ofGeneratio
   unfolding submittedMessageOf told
   message-found out all h o q =
       let x = r .transfer in
-      ap (λ (b : Bool). cond b (completions.Completion (x .parcel .completion)) completions.Nothing) (sym q ∙ ap (full (x .parcel .frames)) o) ∙
-      sym (seek-found (ofGeneration (t .generation)) (v .transfers) completions.Nothing told e h)
+      ap (λ (b : Bool). cond b (completions.Completion (x .parcel .completion)) completions.Nothing) (sym q ∙ ap (full (x .parcel .frames)) o)
+      ∙ seek-found (ofGeneration (t .generation)) (v .transfers) completions.Nothing told e h
 
 find-requires : tie.Need-find-requires
 find-requires c κs = c .before .pre .fitted
@@ -48,10 +47,10 @@ returns c =
     message-none (viewOf (a .self)) (a .token) (f .ensures) (not-true (f .result .held) (c .if1 .taken))
 
 went-out-requires : tie.Need-went-out-requires
-went-out-requires c κs = search needs
+went-out-requires c κs = tt
 
 full-requires : tie.Need-full-requires
-full-requires c κs = search needs
+full-requires c κs = tt
 
 returns-2 : tie.Need-returns-2
 returns-2 c =

@@ -2,13 +2,12 @@
 use mathlib.Core.Path.{_≡_, refl, sym, ap, _∙_}
 use Prim.Native.Nat.{ℕ, _≤_, _<_}
 use native.Mathlib.Omega.{arith}
-use borrow.Author.Needs.{needs}
 use borrow.Author.Tests.{eq-eqb, ne-eqb, lt-ltb, le-ltb}
 use Rattle.token.specs.Token.{stop}
 use Rattle.spach.specs.Refusal.{Outcome, gives, refuses, answered}
 use Rattle.transfer.specs.State.{View, fresh, newOf, blankView}
 use Rattle.transfer.proofs.Kept.{new-call-kept}
-use Rattle.sender.proofs.Asking.{whole-by}
+use Rattle.sender.proofs.Slots.{whole-by}
 use Rattle.sender.proofs.Sender.try_new.Statement.{statement}
 use Rattle.sender.proofs.Sender.try_new.Tie as tie
 
@@ -41,7 +40,7 @@ no-sender : {X : Type 0} → _≡_ {A = Outcome Unit} (refuses 19) (gives tt) �
 no-sender e = let z : _≡_ {A = ℕ} 0 1 = cc in absurd (omega arith)
 
 fresh-requires : tie.Need-fresh-requires
-fresh-requires c κs = search needs
+fresh-requires c κs = tt
 
 returns : tie.Need-returns
 returns c =
@@ -49,7 +48,7 @@ returns c =
     (refused (c .fresh .ensures .1) (none-held (a .capacity) (a .echo-guard-ms) (a .startup-until-block) (a .first) (c .before .if1 .taken)), λ q. no-sender q)
 
 fresh-requires-2 : tie.Need-fresh-requires-2
-fresh-requires-2 c κs = search needs
+fresh-requires-2 c κs = tt
 
 returns-2 : tie.Need-returns-2
 returns-2 c =
@@ -57,7 +56,7 @@ returns-2 c =
     (refused (c .fresh2 .ensures .1) (too-large (a .capacity) (a .echo-guard-ms) (a .startup-until-block) (a .first) (c .before .before .if1 .left) (c .before .if2 .taken)), λ q. no-sender q)
 
 fresh-requires-3 : tie.Need-fresh-requires-3
-fresh-requires-3 c κs = search needs
+fresh-requires-3 c κs = tt
 
 returns-3 : tie.Need-returns-3
 returns-3 c =

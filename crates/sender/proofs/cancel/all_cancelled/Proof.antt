@@ -6,7 +6,6 @@ use Prim.Native.Nat.{_+_, _-_, _≤_}
 use native.Mathlib.Omega.{arith}
 use borrow.Author.Needs.{needs}
 use lib.ListN.{length, take, getD, length-set}
-use lib.Seq.{length-take-le}
 use Rattle.transfer.specs.declared.Event.{Event}
 use Rattle.transfer.specs.declared.Event.the-variants.{Cancelled}
 use Rattle.transfer.specs.declared.PreparedFrame.{PreparedFrame}
@@ -16,8 +15,8 @@ use Rattle.transfer.specs.State.{View, withTransfers, withEvents, withSelected,
 use Rattle.sender.specs.declared.EventSlot.{EventSlot}
 use Rattle.sender.specs.Arrays.{selectionOf, viewOf}
 use Rattle.sender.proofs.Oldest.{Behind, behind-none, behind-more}
-use Rattle.sender.proofs.Slots.{length-read}
-use Rattle.sender.proofs.Shifts.{unmapped}
+use Rattle.sender.proofs.Slots.{unmapped}
+use Rattle.sender.proofs.Turns.{room-first}
 use Rattle.sender.proofs.cancel.all_cancelled.Statement.{statement}
 use Rattle.sender.proofs.cancel.all_cancelled.Tie as tie
 
@@ -43,24 +42,14 @@ slots : (c : tie.Start Inv-loop μ-loop) → length (c .args .s .events) ≡ 256
 slots c = search (needs, unmapped)
 
 -- there is room for an event of each
-room : (c : tie.Start Inv-loop μ-loop) → c .args .s .waiting + c .args .s .pending ≤ 256
-unfolding viewOf
-room c =
-    let s = c .args .s in
-    let long = all c in
-    let long′ = slots c in
-    let low = c .pre .fitted .pending in
-    let low′ = c .pre .fitted .waiting in
-    let live = length-take-le (s .pending) (s .transfers) (omega arith) in
-    let read = length-read EventSlot Event eventOf (s .events) (s .waiting) (omega arith) in
-    let most = c .pre .sound .most-capacity in
-    let accounted = c .pre .sound .accounted in
-    omega arith
+room : (c : tie.Start Inv-loop μ-loop) → c .args .s .pending + c .args .s .waiting ≤ 256
+room c = room-first (c .args .s) (all c) (slots c) (c .pre)
 
 loop-holds : tie.Need-loop-holds Inv-loop μ-loop
 loop-holds c =
     let s = c .args .s in
-    (omega arith, c .pre .fitted .pending, room c, refl, slots c, behind-none eventOf cancelled (s .events) (s .transfers) (s .waiting), refl)
+    let fit = room c in
+    (omega arith, c .pre .fitted .pending, omega arith, refl, slots c, behind-none eventOf cancelled (s .events) (s .transfers) (s .waiting), refl)
 
 mul-x : tie.Need-mul-x Inv-loop μ-loop
 mul-x c = omega arith
@@ -97,7 +86,7 @@ loop-again c =
     (omega arith, v .1, v .2, v .3, length-set (l .r .events) (s .waiting + l .i) x ∙ v .4, behind-more eventOf cancelled (s .events) (l .r .events) (s .transfers) (s .waiting) (l .i) x blankTransfer (omega arith) (omega arith) same (v .5), v .6)
 
 dropped-requires : tie.Need-dropped-requires Inv-loop μ-loop
-dropped-requires c κs = search needs
+dropped-requires c κs = tt
 
 add-r : tie.Need-add-r Inv-loop μ-loop
 add-r c = omega arith

@@ -11,8 +11,8 @@ use Rattle.transfer.specs.State.{View, withEvents}
 use Rattle.sender.specs.declared.EventSlot.{EventSlot}
 use Rattle.sender.specs.Arrays.{viewOf}
 use Rattle.sender.proofs.Oldest.{read-rest}
-use Rattle.sender.proofs.Slots.{length-read}
-use Rattle.sender.proofs.Shifts.{unmapped, Shifted, shift-none, shift-more, shift-ends}
+use Rattle.sender.proofs.Slots.{unmapped, events-counted}
+use Rattle.sender.proofs.Shifts.{Shifted, shift-none, shift-more, shift-ends}
 use Rattle.sender.proofs.cancel.popped.Statement.{statement}
 use Rattle.sender.proofs.cancel.popped.Tie as tie
 
@@ -28,11 +28,8 @@ all c = search (needs, unmapped)
 
 -- an event waits
 some-wait : (c : tie.Start Inv-loop μ-loop) → 0 < c .args .s .waiting
-unfolding viewOf
 some-wait c =
-    let long = all c in
-    let low = c .pre .0 .waiting in
-    let read = length-read EventSlot Event (λ e. e .event) (c .args .s .events) (c .args .s .waiting) (omega arith) in
+    let read = events-counted (c .args .s) (all c) (c .pre .0) in
     let more = c .pre .1 in
     omega arith
 

@@ -65,7 +65,7 @@ newcomer-requires c κs =
     (accept-octets (a .s) (a .request) (a .message .now) (a .frames) (a .echo) (b .pre .0 .sound) (b .pre .2), accept-frames (a .s) (a .request) (a .message .now) (a .frames) (a .echo) (b .pre .0 .sound) (b .pre .2), low)
 
 number-after-requires : tie.Need-number-after-requires
-number-after-requires c κs = search needs
+number-after-requires c κs = tt
 
 pushed-requires : tie.Need-pushed-requires
 unfolding viewOf

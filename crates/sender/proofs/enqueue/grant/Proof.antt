@@ -3,13 +3,9 @@ use mathlib.Core.Path.{_≡_}
 use native.Mathlib.Omega.{arith}
 use borrow.Author.Needs.{needs}
 use lib.ListN.{length}
-use lib.Seq.{length-take-le}
-use Rattle.transfer.specs.declared.Event.{Event}
-use Rattle.sender.specs.declared.EventSlot.{EventSlot}
 use Rattle.sender.specs.Arrays.{viewOf}
 use Rattle.sender.proofs.Granted.{grant-refused, grant-uncut, grant-allocated, count-low}
-use Rattle.sender.proofs.Shifts.{unmapped}
-use Rattle.sender.proofs.Slots.{length-read}
+use Rattle.sender.proofs.Slots.{unmapped, live-counted, events-counted}
 use Rattle.sender.proofs.enqueue.grant.Statement.{statement}
 use Rattle.sender.proofs.enqueue.grant.Tie as tie
 
@@ -17,26 +13,16 @@ find-requires : tie.Need-find-requires
 find-requires c κs = search needs
 
 screen-requires : tie.Need-screen-requires
-screen-requires c κs = search needs
+screen-requires c κs = tt
 
 enum-known-verdict : tie.Need-enum-known-verdict
 enum-known-verdict c = search needs
 
 pending : (c : tie.Start) → length (viewOf (c .args .s) .transfers) ≡ c .args .s .pending
-unfolding viewOf
-pending c =
-    let s = c .args .s in
-    let all : length (s .transfers) ≡ 128 = search (needs, unmapped) in
-    let low = c .pre .fitted .pending in
-    length-take-le (s .pending) (s .transfers) (omega arith)
+pending c = live-counted (c .args .s) (search (needs, unmapped)) (c .pre .fitted)
 
 waiting : (c : tie.Start) → length (viewOf (c .args .s) .events) ≡ c .args .s .waiting
-unfolding viewOf
-waiting c =
-    let s = c .args .s in
-    let all : length (s .events) ≡ 256 = search (needs, unmapped) in
-    let low = c .pre .fitted .waiting in
-    length-read EventSlot Event (λ e. e .event) (s .events) (s .waiting) (omega arith)
+waiting c = events-counted (c .args .s) (search (needs, unmapped)) (c .pre .fitted)
 
 returns : tie.Need-returns
 unfolding viewOf
@@ -49,10 +35,10 @@ enum-told : tie.Need-enum-told
 enum-told c = search needs
 
 header-of-requires : tie.Need-header-of-requires
-header-of-requires c κs = search needs
+header-of-requires c κs = tt
 
 fragment-count-requires : tie.Need-fragment-count-requires
-fragment-count-requires c κs = search needs
+fragment-count-requires c κs = tt
 
 enum-known-error : tie.Need-enum-known-error
 enum-known-error c = search needs

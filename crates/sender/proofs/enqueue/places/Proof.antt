@@ -8,7 +8,7 @@ use lib.Seq.{getD-take, length-take-le}
 use Rattle.transfer.specs.State.{blankTransfer}
 use Rattle.sender.specs.Arrays.{viewOf}
 use Rattle.sender.proofs.Granted.{Marked, marked-none, marked-taken, place-low}
-use Rattle.sender.proofs.Shifts.{unmapped}
+use Rattle.sender.proofs.Slots.{unmapped}
 use Rattle.sender.proofs.enqueue.places.Statement.{statement}
 use Rattle.sender.proofs.enqueue.places.Tie as tie
 

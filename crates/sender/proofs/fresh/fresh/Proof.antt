@@ -2,7 +2,6 @@
 use mathlib.Core.Path.{ap}
 use mathlib.Core.Option.{Option}
 use native.Mathlib.Omega.{arith}
-use borrow.Author.Needs.{needs}
 use Rattle.transfer.specs.declared.PreparedFrame.{PreparedFrame}
 use Rattle.transfer.specs.State.{fresh, withSelected}
 use Rattle.sender.specs.Arrays.{viewOf}
@@ -10,10 +9,10 @@ use Rattle.sender.proofs.fresh.fresh.Statement.{statement}
 use Rattle.sender.proofs.fresh.fresh.Tie as tie
 
 nowhere-requires : tie.Need-nowhere-requires
-nowhere-requires c κs = search needs
+nowhere-requires c κs = tt
 
 unselected-requires : tie.Need-unselected-requires
-unselected-requires c κs = search needs
+unselected-requires c κs = tt
 
 returns : tie.Need-returns
 unfolding viewOf

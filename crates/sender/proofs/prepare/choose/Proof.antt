@@ -5,7 +5,8 @@ use mathlib.Core.Option.{none, some}
 use lib.ListN.{length}
 use Rattle.transfer.specs.Prepare.{isReady}
 use Rattle.sender.specs.Arrays.{viewOf}
-use Rattle.sender.proofs.Chosen.{found-room, choose-held, choose-found, choose-none}
+use Rattle.sender.proofs.Chosen.{choose-held, choose-found, choose-none}
+use Rattle.sender.proofs.Found.{found-room}
 use Rattle.sender.proofs.prepare.choose.Statement.{statement}
 use Rattle.sender.proofs.prepare.choose.Tie as tie
 
@@ -22,7 +23,7 @@ find-requires c κs = let b = c .before .before .before in b .pre .0 .fitted
 select-requires : tie.Need-select-requires
 select-requires c κs =
     let b = c .before .before .before .before .before .before in
-    (b .pre .0 .fitted, found-room (viewOf (b .args .s)) (b .pre .0 .sound) isReady (c .before .before .find .ensures) (c .if2 .taken) (length (b .args .store .now)) (b .pre .1))
+    (b .pre .0 .fitted, found-room isReady (viewOf (b .args .s)) (c .before .before .find .ensures) (c .if2 .taken) (b .pre .0 .sound) (length (b .args .store .now)) (b .pre .1))
 
 returns-2 : tie.Need-returns-2
 unfolding viewOf

@@ -1,12 +1,13 @@
 -- `sender::prepare::prioritize` meets its contract. Assumes nothing.
 use mathlib.Core.Path.{sym, subst, _∙_}
-use borrow.Author.Needs.{needs}
 use borrow.Author.Tests.{not-true, not-false}
 use Rattle.transfer.specs.Invariant.{Sound}
 use Rattle.transfer.specs.State.{ofEcho}
 use Rattle.transfer.proofs.Alive.{frames-live}
+use Rattle.transfer.proofs.Calls.{prioritized-kept}
 use Rattle.sender.specs.Arrays.{viewOf}
-use Rattle.sender.proofs.Chosen.{found-low, found-live, fronted-by, found-kept, prioritize-none, prioritize-idle, prioritize-ready}
+use Rattle.sender.proofs.Chosen.{fronted-by, prioritize-none, prioritize-idle, prioritize-ready}
+use Rattle.sender.proofs.Found.{found-low, found-there, found-live}
 use Rattle.sender.proofs.prepare.prioritize.Statement.{statement}
 use Rattle.sender.proofs.prepare.prioritize.Tie as tie
 
@@ -14,7 +15,7 @@ find-requires : tie.Need-find-requires
 find-requires c κs = let b = c .before in b .pre .0 .fitted
 
 dropped-requires : tie.Need-dropped-requires
-dropped-requires c κs = search needs
+dropped-requires c κs = tt
 
 returns : tie.Need-returns
 returns c =
@@ -28,20 +29,20 @@ repeated-requires c κs =
     let b = c .before .before .before .before .before in
     let a = b .args in
     let f = c .before .before .before .find in
-    frames-live (f .result .transfer) (found-live (viewOf (a .s)) (b .pre .0 .sound) (ofEcho (a .echo)) (f .ensures) (not-false (f .result .held) (c .if1 .left)))
+    frames-live (f .result .transfer) (found-live (ofEcho (a .echo)) (viewOf (a .s)) (f .ensures) (not-false (f .result .held) (c .if1 .left)) (b .pre .0 .sound))
 
 moved-to-front-requires : tie.Need-moved-to-front-requires
 moved-to-front-requires c κs =
     let b = c .before .before .before .before .before .before .before in
     let a = b .args in
     let f = c .before .before .before .before .before .find in
-    (b .pre .0 .fitted, found-low (viewOf (a .s)) (b .pre .0 .sound) (ofEcho (a .echo)) (f .ensures) (not-false (f .result .held) (c .before .before .if1 .left)))
+    (b .pre .0 .fitted, found-low (ofEcho (a .echo)) (viewOf (a .s) .transfers) (f .ensures) (not-false (f .result .held) (c .before .before .if1 .left)))
 
 only-echo-requires : tie.Need-only-echo-requires
-only-echo-requires c κs = search needs
+only-echo-requires c κs = tt
 
 dropped-requires-2 : tie.Need-dropped-requires-2
-dropped-requires-2 c κs = search needs
+dropped-requires-2 c κs = tt
 
 returns-2 : tie.Need-returns-2
 unfolding viewOf
@@ -67,7 +68,9 @@ choose-requires c κs =
         fitted = record { pending = m .ensures .0 .pending; waiting = m .ensures .0 .waiting };
         sound =
             subst Sound (sym (fronted-by (viewOf (a .s)) (a .echo) (f .result .place) (f .result .transfer) (c .before .before .before .before .before .repeated .ensures) (m .ensures .1) (c .before .before .only-echo .ensures)))
-            (found-kept (viewOf (a .s)) (ofEcho (a .echo)) (a .echo) (f .ensures) (not-false (f .result .held) (c .before .before .before .before .before .before .if1 .left)) (b .pre .0 .sound));
+            (prioritized-kept (viewOf (a .s)) (f .result .place) (a .echo) (f .result .transfer)
+            (found-low (ofEcho (a .echo)) (viewOf (a .s) .transfers) (f .ensures) (not-false (f .result .held) (c .before .before .before .before .before .before .if1 .left)))
+            (found-there (ofEcho (a .echo)) (viewOf (a .s) .transfers) (f .ensures)) (b .pre .0 .sound));
       },
       b .pre .1,
     )

@@ -6,10 +6,10 @@ use Rattle.sender.proofs.prepare.select.Statement.{statement}
 use Rattle.sender.proofs.prepare.select.Tie as tie
 
 front-requires : tie.Need-front-requires
-front-requires c κs = search needs
+front-requires c κs = tt
 
 one-left-requires : tie.Need-one-left-requires
-one-left-requires c κs = search needs
+one-left-requires c κs = tt
 
 packed-of-requires : tie.Need-packed-of-requires
 packed-of-requires c κs = search needs
@@ -18,7 +18,7 @@ enum-known-verdict : tie.Need-enum-known-verdict
 enum-known-verdict c = search needs
 
 dropped-requires : tie.Need-dropped-requires
-dropped-requires c κs = search needs
+dropped-requires c κs = tt
 
 returns : tie.Need-returns
 returns c =
@@ -32,7 +32,7 @@ enum-told : tie.Need-enum-told
 enum-told c = search needs
 
 number-after-requires : tie.Need-number-after-requires
-number-after-requires c κs = search needs
+number-after-requires c κs = tt
 
 returns-2 : tie.Need-returns-2
 unfolding viewOf

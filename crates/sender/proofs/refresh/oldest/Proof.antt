@@ -11,7 +11,7 @@ use Rattle.transfer.specs.Refresh.{ageOf, oldestFrom, oldest}
 use Rattle.transfer.specs.State.{blankTransfer}
 use Rattle.sender.specs.Arrays.{viewOf}
 use Rattle.sender.proofs.Oldest.{oldestOn, older, younger, oldest-ends}
-use Rattle.sender.proofs.Shifts.{unmapped}
+use Rattle.sender.proofs.Slots.{unmapped}
 use Rattle.sender.proofs.refresh.oldest.Statement.{statement}
 use Rattle.sender.proofs.refresh.oldest.Tie as tie
 
@@ -41,7 +41,7 @@ element-copy-out-x : tie.Need-element-copy-out-x Inv-loop μ-loop
 element-copy-out-x c = let low = c .before .before .pre .pending in omega arith
 
 age-of-requires : tie.Need-age-of-requires Inv-loop μ-loop
-age-of-requires c κs = search needs
+age-of-requires c κs = tt
 
 add-i : tie.Need-add-i Inv-loop μ-loop
 add-i c = omega arith

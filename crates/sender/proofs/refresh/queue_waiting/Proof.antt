@@ -13,7 +13,8 @@ use Rattle.transfer.proofs.Alive.{frames-live}
 use Rattle.transfer.proofs.Listed.{all-at}
 use Rattle.sender.specs.Arrays.{viewOf}
 use Rattle.sender.proofs.Oldest.{Mapped, mapped-none, mapped-more}
-use Rattle.sender.proofs.Shifts.{unmapped, getD-rest}
+use Rattle.sender.proofs.Shifts.{getD-rest}
+use Rattle.sender.proofs.Slots.{unmapped}
 use Rattle.sender.proofs.refresh.queue_waiting.Statement.{statement}
 use Rattle.sender.proofs.refresh.queue_waiting.Tie as tie
 

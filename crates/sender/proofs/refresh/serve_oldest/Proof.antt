@@ -15,7 +15,7 @@ use Rattle.transfer.specs.Lists.{removeAt}
 use Rattle.transfer.specs.Refresh.{oldest, toFront, oldestFirst, serveOldest}
 use Rattle.transfer.specs.State.{View, withTransfers, blankTransfer}
 use Rattle.sender.specs.Arrays.{viewOf}
-use Rattle.sender.proofs.Shifts.{unmapped}
+use Rattle.sender.proofs.Slots.{unmapped}
 use Rattle.sender.proofs.refresh.serve_oldest.Statement.{statement}
 use Rattle.sender.proofs.refresh.serve_oldest.Tie as tie
 

@@ -1,12 +1,18 @@
 -- `sender::status::shows` meets its contract. Assumes nothing.
-use mathlib.Core.Path.{ap, _∙_}
+use mathlib.Core.Path.{_≡_, sym, ap, subst, _∙_}
+use mathlib.Core.Bool.{true}
 use Prim.Native.Nat.{ℕ}
 use borrow.Author.Needs.{needs}
+use borrow.Author.Tests.{not-true, not-false}
 use Rattle.transfer.specs.Advance.{walked}
+use Rattle.transfer.specs.Invariant.{Sound}
 use Rattle.transfer.specs.Queue.{has}
-use Rattle.transfer.specs.State.{ofEcho}
+use Rattle.transfer.specs.State.{putAt, ofEcho}
+use Rattle.transfer.specs.Transfer.{wentOut}
+use Rattle.transfer.proofs.Calls.{put-observed-kept}
 use Rattle.sender.specs.Arrays.{viewOf}
-use Rattle.sender.proofs.Handed.{found-low, observed-sound, walked-past, status-unfound, status-unbegun, status-found}
+use Rattle.sender.proofs.Found.{found-low, found-there}
+use Rattle.sender.proofs.Handed.{walked-past, status-unfound, status-unbegun, status-found}
 use Rattle.sender.proofs.status.shows.Statement.{statement}
 use Rattle.sender.proofs.status.shows.Tie as tie
 
@@ -15,50 +21,60 @@ find-requires c κs = search needs
 
 returns : tie.Need-returns
 returns c =
-    let a = c .before .before .before .before .before .args in
-    (c .before .before .before .before .before .pre .fitted, status-unfound (viewOf (a .s)) (a .status) (c .before .before .before .before .find .result) (c .before .before .before .before .find .ensures) (c .if1 .taken))
+    let b = c .before .before .before .before .before in
+    let f = c .before .before .before .before .find in
+    (b .pre .fitted, status-unfound (viewOf (b .args .s)) (b .args .status) (f .ensures) (not-true (f .result .held) (c .if1 .taken)))
+
+-- the transfer was found
+found : (c : tie.Else1) → c .before .before .before .before .find .result .held ≡ true
+found c = not-false (c .before .before .before .before .find .result .held) (c .if1 .left)
 
 went-out-requires : tie.Need-went-out-requires
-went-out-requires c κs = search needs
+went-out-requires c κs = tt
 
 has-requires : tie.Need-has-requires
 has-requires c κs = search needs
 
+-- whether its Begin went out
+begun : (c : tie.After-has) → c .has .result ≡ has (wentOut (c .before .before .before .before .before .before .find .result .transfer)) 0
+begun c = c .has .ensures ∙ ap (λ (q : ℕ). has q 0) (c .before .went-out .ensures)
+
 returns-2 : tie.Need-returns-2
 returns-2 c =
-    let a = c .before .before .before .before .before .before .before .before .args in
-    let begun = c .before .has .ensures ∙ ap (λ (q : ℕ). has q 0) (c .before .before .went-out .ensures) in
-    (c .before .before .before .before .before .before .before .before .pre .fitted, status-unbegun (viewOf (a .s)) (a .status) (c .before .before .before .before .before .before .before .find .result) (c .before .before .before .before .before .before .before .find .ensures) (c .before .before .before .if1 .left) begun (c .if2 .taken))
+    let b = c .before .before .before .before .before .before .before .before in
+    (b .pre .fitted, status-unbegun (viewOf (b .args .s)) (b .args .status) (c .before .before .before .before .before .before .before .find .ensures) (found (c .before .before .before)) (begun (c .before)) (c .if2 .taken))
 
 observe-requires : tie.Need-observe-requires
-observe-requires c κs = search needs
+observe-requires c κs = tt
 
 put-requires : tie.Need-put-requires
 put-requires c κs =
-    let a = c .before .before .before .before .before .before .before .before .before .args in
-    (c .before .before .before .before .before .before .before .before .before .pre .fitted, found-low (ofEcho (a .status .«partial_echo»)) (viewOf (a .s)) (c .before .before .before .before .before .before .before .before .find .result) (c .before .before .before .before .before .before .before .before .find .ensures) (c .before .before .before .before .if1 .left))
+    let b = c .before .before .before .before .before .before .before .before .before in
+    (b .pre .fitted, found-low (ofEcho (b .args .status .«partial_echo»)) (viewOf (b .args .s) .transfers) (c .before .before .before .before .before .before .before .before .find .ensures) (found (c .before .before .before .before)))
+
+-- the sender with the status observed is sound
+put-sound : (c : tie.After-put) → Sound (viewOf (c .put .result))
+unfolding viewOf
+put-sound c =
+    let b = c .before .before .before .before .before .before .before .before .before .before in
+    let g = ofEcho (b .args .status .«partial_echo») in
+    let v = viewOf (b .args .s) in
+    let f = c .before .before .before .before .before .before .before .before .before .find in
+    let same = c .put .ensures .1 ∙ ap (putAt v (f .result .place)) (c .before .observe .ensures) in
+    subst Sound (sym same)
+    (put-observed-kept v (f .result .place) (b .args .status .«received_frames») (f .result .transfer)
+    (found-low g (v .transfers) (f .ensures) (found (c .before .before .before .before .before))) (found-there g (v .transfers) (f .ensures)) (b .pre .sound))
 
 walk-requires : tie.Need-walk-requires
-unfolding viewOf
-walk-requires c κs =
-    let a = c .before .before .before .before .before .before .before .before .before .before .args in
-    let v = viewOf (a .s) in
-    let r = c .before .before .before .before .before .before .before .before .before .find .result in
-    record { fitted = c .put .ensures .0; sound = observed-sound (ofEcho (a .status .«partial_echo»)) v r (c .before .before .before .before .before .before .before .before .before .find .ensures) (c .before .before .before .before .before .if1 .left) (c .before .before .before .before .before .before .before .before .before .before .pre .sound) (c .put .ensures .1) (a .status .«received_frames») (c .before .observe .ensures) }
+walk-requires c κs = record { fitted = c .put .ensures .0; sound = put-sound c }
 
 returns-3 : tie.Need-returns-3
 unfolding viewOf
 returns-3 c =
-    let a = c .before .before .before .before .before .before .before .before .before .before .before .args in
-    let v = viewOf (a .s) in
-    let r = c .before .before .before .before .before .before .before .before .before .before .find .result in
-    let e = c .before .before .before .before .before .before .before .before .before .before .find .ensures in
-    let h = c .before .before .before .before .before .before .if1 .left in
-    let begun = c .before .before .before .before .has .ensures ∙ ap (λ (q : ℕ). has q 0) (c .before .before .before .before .before .went-out .ensures) in
-    let sound = observed-sound (ofEcho (a .status .«partial_echo»)) v r e h (c .before .before .before .before .before .before .before .before .before .before .before .pre .sound) (c .before .put .ensures .1) (a .status .«received_frames») (c .before .before .observe .ensures) in
-    let past = walked-past (viewOf (c .before .put .result)) sound in (
+    let b = c .before .before .before .before .before .before .before .before .before .before .before in
+    let past = walked-past (viewOf (c .before .put .result)) (put-sound (c .before)) in (
       c .walk .ensures .0,
-      status-found v (a .status) r e h begun (c .before .before .before .if2 .left) (c .before .before .observe .result) (viewOf (c .walk .result)) (c .before .before .observe .ensures) (c .walk .ensures .1 ∙ (past ∙ ap walked (c .before .put .ensures .1))),
+      status-found (viewOf (b .args .s)) (b .args .status) (c .before .before .before .before .before .before .before .before .before .before .find .ensures) (found (c .before .before .before .before .before .before)) (begun (c .before .before .before .before)) (c .before .before .before .if2 .left) (c .before .before .observe .result) (viewOf (c .walk .result)) (c .before .before .observe .ensures) (c .walk .ensures .1 ∙ (past ∙ ap walked (c .before .put .ensures .1))),
     )
 
 pub shows-spec : {M : Type 1} → statement M

@@ -5,7 +5,6 @@ use Prim.Native.Nat.{_≤_, suc}
 use native.Mathlib.Omega.{arith}
 use borrow.Author.Needs.{needs}
 use lib.ListN.{length}
-use lib.Seq.{length-take-le}
 use Rattle.transfer.specs.declared.PreparedFrame.{PreparedFrame}
 use Rattle.transfer.specs.declared.Transfer.{Transfer}
 use Rattle.transfer.specs.Advance.{kept}
@@ -13,7 +12,7 @@ use Rattle.transfer.specs.Lists.{removeAt}
 use Rattle.transfer.specs.State.{View, withTransfers, withSelected, blankTransfer}
 use Rattle.transfer.proofs.Listed.{length-removed}
 use Rattle.sender.specs.Arrays.{viewOf}
-use Rattle.sender.proofs.Shifts.{unmapped}
+use Rattle.sender.proofs.Slots.{unmapped, live-counted}
 use Rattle.sender.proofs.submit.hand_in.Statement.{statement}
 use Rattle.sender.proofs.submit.hand_in.Tie as tie
 
@@ -21,7 +20,7 @@ in-flight-requires : tie.Need-in-flight-requires
 in-flight-requires c κs = search needs
 
 dropped-requires : tie.Need-dropped-requires
-dropped-requires c κs = search needs
+dropped-requires c κs = tt
 
 cast-words : tie.Need-cast-words
 cast-words c = search needs
@@ -43,12 +42,9 @@ removed-requires c κs = search needs
 
 -- no more are live than there is room for
 room : (c : tie.Start) → length (viewOf (c .args .s) .transfers) ≤ 128
-unfolding viewOf
 room c =
-    let s = c .args .s in
-    let all : length (s .transfers) ≡ 128 = search (needs, unmapped) in
+    let live = live-counted (c .args .s) (search (needs, unmapped)) (c .pre .0) in
     let low = c .pre .0 .pending in
-    let long = length-take-le (s .pending) (s .transfers) (omega arith) in
     omega arith
 
 pushed-requires : tie.Need-pushed-requires

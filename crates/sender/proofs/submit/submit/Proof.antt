@@ -1,12 +1,15 @@
 -- `sender::submit::submit` meets its contract. Assumes nothing.
-use mathlib.Core.Path.{ap}
+use mathlib.Core.Path.{_≡_, ap}
+use mathlib.Core.Bool.{true}
 use mathlib.Core.List.{List, []}
 use Prim.Native.Nat.{ℕ}
 use borrow.Author.Needs.{needs}
+use borrow.Author.Tests.{not-true, not-false}
 use Rattle.transfer.specs.State.{Out, ofGeneration}
 use Rattle.sender.specs.Answers.{left}
 use Rattle.sender.specs.Arrays.{viewOf, lent}
-use Rattle.sender.proofs.Handed.{found-low, found-words, front-frame, submit-unselected, submit-unfound, submit-behind, submit-handed}
+use Rattle.sender.proofs.Found.{found-low, found-words}
+use Rattle.sender.proofs.Handed.{front-frame, submit-unselected, submit-unfound, submit-behind, submit-handed}
 use Rattle.sender.proofs.submit.submit.Statement.{statement}
 use Rattle.sender.proofs.submit.submit.Tie as tie
 
@@ -15,7 +18,7 @@ abbrev wordsOf : Out Unit → List ℕ
 wordsOf o = o .lent .words
 
 is-selected-requires : tie.Need-is-selected-requires
-is-selected-requires c κs = search needs
+is-selected-requires c κs = tt
 
 returns : tie.Need-returns
 unfolding viewOf
@@ -31,17 +34,21 @@ returns-2 : tie.Need-returns-2
 unfolding viewOf
 returns-2 c =
     let a = c .before .before .before .before .before .before .before .before .before .args in
-    let e = submit-unfound (viewOf (a .s)) (lent [] (a .words .now)) (a .token) (c .before .before .before .before .before .is-selected .ensures) (c .before .before .before .before .if1 .left) (c .before .before .before .find .result) (c .before .before .before .find .ensures) (c .if2 .taken) in
+    let e = submit-unfound (viewOf (a .s)) (lent [] (a .words .now)) (a .token) (c .before .before .before .before .before .is-selected .ensures) (c .before .before .before .before .if1 .left) (c .before .before .before .find .ensures) (not-true (c .before .before .before .find .result .held) (c .if2 .taken)) in
     ((c .before .before .before .before .before .before .before .before .before .pre .0 .fitted, ap left e), ap wordsOf e)
 
+-- its transfer was found
+found : (c : tie.Else2) → c .before .before .before .find .result .held ≡ true
+found c = not-false (c .before .before .before .find .result .held) (c .if2 .left)
+
 is-front-requires : tie.Need-is-front-requires
-is-front-requires c κs = search needs
+is-front-requires c κs = tt
 
 returns-3 : tie.Need-returns-3
 unfolding viewOf
 returns-3 c =
     let a = c .before .before .before .before .before .before .before .before .before .before .before .args in
-    let e = submit-behind (viewOf (a .s)) (lent [] (a .words .now)) (a .token) (c .before .before .before .before .before .before .before .is-selected .ensures) (c .before .before .before .before .before .before .if1 .left) (c .before .before .before .before .before .find .result) (c .before .before .before .before .before .find .ensures) (c .before .before .if2 .left) (c .before .is-front .ensures) (c .if3 .taken) in
+    let e = submit-behind (viewOf (a .s)) (lent [] (a .words .now)) (a .token) (c .before .before .before .before .before .before .before .is-selected .ensures) (c .before .before .before .before .before .before .if1 .left) (c .before .before .before .before .before .find .ensures) (found (c .before .before)) (c .before .is-front .ensures) (c .if3 .taken) in
     ((c .before .before .before .before .before .before .before .before .before .before .before .pre .0 .fitted, ap left e), ap wordsOf e)
 
 hand-in-requires : tie.Need-hand-in-requires
@@ -50,13 +57,12 @@ hand-in-requires c κs =
     let w = c .before .before .before .before .before .before .before .before .before .before .before .before .pre .0 in
     let v = viewOf (a .s) in
     let g = ofGeneration (a .token .generation) in
-    let r = c .before .before .before .before .before .before .find .result in
     let e = c .before .before .before .before .before .before .find .ensures in
-    let h = c .before .before .before .if2 .left in (
+    let h = found (c .before .before .before) in (
       w .fitted,
-      found-low g v r e h,
-      front-frame g v r e h (w .sound) (a .token .frame) (c .before .before .is-front .ensures) (c .before .if3 .left),
-      found-words g v r e h (w .sound),
+      found-low g (v .transfers) e h,
+      front-frame g v e h (w .sound) (a .token .frame) (c .before .before .is-front .ensures) (c .before .if3 .left),
+      found-words g v e h (w .sound),
       c .before .before .before .before .before .before .before .before .before .before .before .before .pre .1,
     )
 
@@ -68,7 +74,7 @@ unfolding viewOf
 returns-4 c =
     let a = c .before .before .before .before .before .before .before .before .before .before .before .before .before .before .before .args in
     let h = c .before .before .hand-in .ensures in
-    let e = submit-handed (viewOf (a .s)) (lent [] (a .words .now)) (a .token) (c .before .before .before .before .before .before .before .before .before .before .before .is-selected .ensures) (c .before .before .before .before .before .before .before .before .before .before .if1 .left) (c .before .before .before .before .before .before .before .before .before .find .result) (c .before .before .before .before .before .before .before .before .before .find .ensures) (c .before .before .before .before .before .before .if2 .left) (c .before .before .before .before .before .is-front .ensures) (c .before .before .before .before .if3 .left) _ _ (h .0 .1) (h .1) in
+    let e = submit-handed (viewOf (a .s)) (lent [] (a .words .now)) (a .token) (c .before .before .before .before .before .before .before .before .before .before .before .is-selected .ensures) (c .before .before .before .before .before .before .before .before .before .before .if1 .left) (c .before .before .before .before .before .before .before .before .before .find .ensures) (found (c .before .before .before .before .before .before)) (c .before .before .before .before .before .is-front .ensures) (c .before .before .before .before .if3 .left) _ _ (h .0 .1) (h .1) in
     ((h .0 .0, e .0), e .1)
 
 pub submit-spec : {M : Type 1} → statement M

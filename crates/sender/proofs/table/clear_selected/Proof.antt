@@ -1,7 +1,6 @@
 -- `sender::table::clear_selected` meets its contract. Assumes nothing.
 use mathlib.Core.Path.{ap}
 use mathlib.Core.Option.{Option}
-use borrow.Author.Needs.{needs}
 use Rattle.transfer.specs.declared.PreparedFrame.{PreparedFrame}
 use Rattle.transfer.specs.State.{withSelected}
 use Rattle.sender.specs.Arrays.{viewOf}
@@ -9,7 +8,7 @@ use Rattle.sender.proofs.table.clear_selected.Statement.{statement}
 use Rattle.sender.proofs.table.clear_selected.Tie as tie
 
 unselect-requires : tie.Need-unselect-requires
-unselect-requires c κs = search needs
+unselect-requires c κs = tt
 
 returns : tie.Need-returns
 unfolding viewOf

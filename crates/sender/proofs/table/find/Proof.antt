@@ -8,8 +8,7 @@ use Rattle.transfer.specs.Lists.{position}
 use Rattle.transfer.specs.Sought.{keyOf}
 use Rattle.transfer.specs.State.{blankTransfer}
 use Rattle.sender.specs.Arrays.{viewOf}
-use Rattle.sender.proofs.Slots.{positionFrom, position-next, place-here, place-none}
-use Rattle.sender.proofs.Shifts.{unmapped}
+use Rattle.sender.proofs.Slots.{positionFrom, position-next, place-here, place-none, unmapped}
 use Rattle.sender.proofs.table.find.Statement.{statement}
 use Rattle.sender.proofs.table.find.Tie as tie
 
@@ -35,7 +34,7 @@ element-copy-out-x : tie.Need-element-copy-out-x Inv-loop μ-loop
 element-copy-out-x c = let low = c .before .before .pre .pending in omega arith
 
 matches-requires : tie.Need-matches-requires Inv-loop μ-loop
-matches-requires c κs = search needs
+matches-requires c κs = tt
 
 returns : tie.Need-returns Inv-loop μ-loop
 unfolding viewOf
@@ -63,7 +62,7 @@ loop-again c =
     )
 
 nowhere-requires : tie.Need-nowhere-requires Inv-loop μ-loop
-nowhere-requires c κs = search needs
+nowhere-requires c κs = tt
 
 returns-2 : tie.Need-returns-2 Inv-loop μ-loop
 unfolding viewOf

@@ -8,7 +8,8 @@ use borrow.Author.Needs.{needs}
 use Rattle.transfer.specs.Lists.{removeAt}
 use Rattle.transfer.specs.State.{View, withTransfers, blankTransfer}
 use Rattle.sender.specs.Arrays.{viewOf}
-use Rattle.sender.proofs.Shifts.{unmapped, below, Lifted, lift-none, lift-more, lift-ends}
+use Rattle.sender.proofs.Shifts.{below, Lifted, lift-none, lift-more, lift-ends}
+use Rattle.sender.proofs.Slots.{unmapped}
 use Rattle.sender.proofs.table.moved_to_front.Statement.{statement}
 use Rattle.sender.proofs.table.moved_to_front.Tie as tie
 
@@ -19,12 +20,15 @@ Inv-loop place x r₀ i₀ r i =
 abbrev μ-loop : tie.MeasureT-loop
 μ-loop place x r₀ i₀ r i = i
 
+all : (c : tie.Start Inv-loop μ-loop) → length (c .args .s .transfers) ≡ 128
+all c = search (needs, unmapped)
+
 loop-holds : tie.Need-loop-holds Inv-loop μ-loop
 unfolding viewOf
 loop-holds c =
     let s = c .args .s in
     let h = below (s .pending) (s .transfers) (c .args .place) (c .pre .1) in
-    let all : length (s .transfers) ≡ 128 = search (needs, unmapped) in
+    let long = all c in
     (omega arith, omega arith, refl, refl, lift-none (s .transfers) (c .args .place) (omega arith), refl)
 
 sub-r : tie.Need-sub-r Inv-loop μ-loop
@@ -55,7 +59,7 @@ loop-again c =
     let s = a .args .s in
     let l = c .before .before .loop in
     let v = l .inv in
-    let all : length (s .transfers) ≡ 128 = search (needs, unmapped) in
+    let long = all a in
     (omega arith, v .1, v .2, v .3, lift-more (s .transfers) (l .r .transfers) (a .args .place) (l .i) blankTransfer (omega arith) (omega arith) (omega arith) (v .4), v .5)
 
 element-set-from-x : tie.Need-element-set-from-x Inv-loop μ-loop
@@ -70,7 +74,7 @@ returns c =
     let l = c .before .loop in
     let v = l .inv in
     let h = below (s .pending) (s .transfers) (a .args .place) (a .pre .1) in
-    let all : length (s .transfers) ≡ 128 = search (needs, unmapped) in
+    let long = all a in
     let lifted : take (l .r .pending) (set (l .r .transfers) 0 x) ≡ x ∷ removeAt (a .args .place) (take (s .pending) (s .transfers)) =
     rw (v .2) (lift-ends (s .transfers) (l .r .transfers) x (a .args .place) (l .i) (s .pending) (omega arith) h (omega arith) (v .4)) in (
       record { pending = omega arith; waiting = omega arith },

@@ -8,7 +8,8 @@ use borrow.Author.Needs.{needs}
 use Rattle.transfer.specs.Lists.{removeAt}
 use Rattle.transfer.specs.State.{View, withTransfers, blankTransfer}
 use Rattle.sender.specs.Arrays.{viewOf}
-use Rattle.sender.proofs.Shifts.{unmapped, below, Shifted, shift-none, shift-more, shift-ends}
+use Rattle.sender.proofs.Shifts.{below, Shifted, shift-none, shift-more, shift-ends}
+use Rattle.sender.proofs.Slots.{unmapped}
 use Rattle.sender.proofs.table.removed.Statement.{statement}
 use Rattle.sender.proofs.table.removed.Tie as tie
 
@@ -18,6 +19,9 @@ Inv-loop place r₀ n i₀ r i =
 
 abbrev μ-loop : tie.MeasureT-loop
 μ-loop place r₀ n i₀ r i = n - i
+
+all : (c : tie.Start Inv-loop μ-loop) → length (c .args .s .transfers) ≡ 128
+all c = search (needs, unmapped)
 
 sub-n : tie.Need-sub-n Inv-loop μ-loop
 unfolding viewOf
@@ -57,7 +61,7 @@ loop-again c =
     let a = c .before .before .before in
     let l = c .before .before .loop in
     let v = l .inv in
-    let all : length (a .args .s .transfers) ≡ 128 = search (needs, unmapped) in
+    let long = all a in
     (omega arith, omega arith, v .2, v .3, shift-more (a .args .s .transfers) (l .r .transfers) (a .args .place) (l .i) blankTransfer (omega arith) (v .4), v .5)
 
 returns : tie.Need-returns Inv-loop μ-loop
@@ -68,7 +72,7 @@ returns c =
     let l = c .before .loop in
     let v = l .inv in
     let h = below (s .pending) (s .transfers) (a .args .place) (a .pre .1) in
-    let all : length (s .transfers) ≡ 128 = search (needs, unmapped) in
+    let long = all a in
     let n : ℕ = s .pending - 1 in
     let shifted : take n (l .r .transfers) ≡ removeAt (a .args .place) (take (s .pending) (s .transfers)) =
     shift-ends (s .transfers) (l .r .transfers) (a .args .place) (l .i) n (s .pending) (v .0) (omega arith) (omega arith) (omega arith) (v .4) in (

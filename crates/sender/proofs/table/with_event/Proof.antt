@@ -9,8 +9,7 @@ use Rattle.transfer.specs.declared.Event.{Event}
 use Rattle.transfer.specs.State.{withEvents}
 use Rattle.sender.specs.declared.EventSlot.{EventSlot}
 use Rattle.sender.specs.Arrays.{viewOf}
-use Rattle.sender.proofs.Slots.{stored-behind, length-read}
-use Rattle.sender.proofs.Shifts.{unmapped}
+use Rattle.sender.proofs.Slots.{stored-behind, unmapped, events-counted}
 use Rattle.sender.proofs.table.with_event.Statement.{statement}
 use Rattle.sender.proofs.table.with_event.Tie as tie
 
@@ -18,11 +17,8 @@ all : (c : tie.Start) → length (c .args .s .events) ≡ 256
 all c = search (needs, unmapped)
 
 room : (c : tie.Start) → c .args .s .waiting < 256
-unfolding viewOf
 room c =
-    let long = all c in
-    let low = c .pre .0 .waiting in
-    let read = length-read EventSlot Event (λ e. e .event) (c .args .s .events) (c .args .s .waiting) (omega arith) in
+    let read = events-counted (c .args .s) (all c) (c .pre .0) in
     let fewer = c .pre .1 in
     omega arith
 

@@ -8,7 +8,7 @@ use Rattle.transfer.specs.Echo.{freeAnswer}
 use Rattle.transfer.specs.Advance.{walk}
 use Rattle.transfer.proofs.Around.{free-now}
 use Rattle.sender.specs.Arrays.{viewOf}
-use Rattle.sender.proofs.Shifts.{unmapped}
+use Rattle.sender.proofs.Slots.{unmapped}
 use Rattle.sender.proofs.Turns.{walkable, room-first, Turning, here, turn-stays, turn-ends, turn-fails, turn-begins, turned-all}
 use Rattle.sender.proofs.walk.walk.Statement.{statement}
 use Rattle.sender.proofs.walk.walk.Tie as tie
@@ -100,7 +100,7 @@ add-r-2 : tie.Need-add-r-2 Inv-loop μ-loop
 add-r-2 c = let l = c .before .before .before .before .before in omega (arith, l .before .loop .inv .room, l .loop-test .taken)
 
 unselect-requires : tie.Need-unselect-requires Inv-loop μ-loop
-unselect-requires c κs = search needs
+unselect-requires c κs = tt
 
 loop-less-2 : tie.Need-loop-less-2 Inv-loop μ-loop
 loop-less-2 c = let l = c .before .before .before .before .before .before .before in omega (arith, l .before .loop .inv .most, l .loop-test .taken)
@@ -117,7 +117,7 @@ enum-told : tie.Need-enum-told Inv-loop μ-loop
 enum-told c = search needs
 
 unselect-requires-2 : tie.Need-unselect-requires-2 Inv-loop μ-loop
-unselect-requires-2 c κs = search needs
+unselect-requires-2 c κs = tt
 
 free-echo-requires : tie.Need-free-echo-requires Inv-loop μ-loop
 free-echo-requires c κs = let t = c .before .before .before .before .before .before .before .before .before .before .loop .inv in (t .echoes, t .next)
@@ -126,7 +126,7 @@ enum-told-2 : tie.Need-enum-told-2 Inv-loop μ-loop
 enum-told-2 c = search needs
 
 exhausted-requires : tie.Need-exhausted-requires Inv-loop μ-loop
-exhausted-requires c κs = search needs
+exhausted-requires c κs = tt
 
 mul-t39 : tie.Need-mul-t39 Inv-loop μ-loop
 mul-t39 c =
@@ -207,7 +207,7 @@ add-r-6 : tie.Need-add-r-6 Inv-loop μ-loop
 add-r-6 c = let low : c .before .before .before .e .given .0 .0 < 128 = element-write-r c in omega (arith, low)
 
 number-after-requires : tie.Need-number-after-requires Inv-loop μ-loop
-number-after-requires c κs = search needs
+number-after-requires c κs = tt
 
 loop-less-4 : tie.Need-loop-less-4 Inv-loop μ-loop
 loop-less-4 c =

@@ -21,6 +21,8 @@ use crate::{
 };
 use std::ops::Range;
 
+pub mod sender;
+
 pub const ANSWERED: u8 = 0;
 pub const NO_CALL: u8 = 255;
 
@@ -89,8 +91,8 @@ pub const ADVANCE: u8 = 0x24;
 pub const SENT: u8 = 0x25;
 pub const PROCEDURE_STATE: u8 = 0x26;
 
-/// A row of the README's table of operations.
-pub struct Operation {
+/// A row of the README's table of operations, of those that run on this machine.
+pub struct Operation<M = Machine> {
     pub op: u8,
     pub name: &'static str,
     /// How many octets the operands have.
@@ -99,7 +101,7 @@ pub struct Operation {
     pub longest: usize,
     /// The number octets other than 0 that it can answer.
     pub refusals: &'static [u8],
-    run: fn(&mut Call<'_>) -> Answered,
+    run: fn(&mut Call<'_, M>) -> Answered,
 }
 
 /// In the order of their op octets, the first of which is 1.
@@ -144,14 +146,14 @@ pub static OPERATIONS: [Operation; 38] = [
     row(SENT,              "SENT",              25,  2, &[17, 18, NO_CALL], sent),
     row(PROCEDURE_STATE,   "PROCEDURE_STATE",    0, 42, &[NO_CALL],         procedure_state),
 ];
-const fn row(
+const fn row<M>(
     op: u8,
     name: &'static str,
     operands: usize,
     longest: usize,
     refusals: &'static [u8],
-    run: fn(&mut Call<'_>) -> Answered,
-) -> Operation {
+    run: fn(&mut Call<'_, M>) -> Answered,
+) -> Operation<M> {
     Operation {
         op,
         name,
@@ -166,8 +168,8 @@ pub fn operation(op: u8) -> Option<&'static Operation> {
 }
 
 /// An operation that was run: where its operands stand in the script, and its answer in the answers.
-pub struct Step {
-    pub operation: &'static Operation,
+pub struct Step<M: 'static = Machine> {
+    pub operation: &'static Operation<M>,
     pub operands: Range<usize>,
     pub answer: Range<usize>,
 }
@@ -176,20 +178,29 @@ pub fn run(script: &[u8], answers: &mut [u8]) -> usize {
     run_each(script, answers, |_| ())
 }
 /// `run`, telling each step after it was made.
-pub fn run_each(script: &[u8], answers: &mut [u8], mut each: impl FnMut(Step)) -> usize {
+pub fn run_each(script: &[u8], answers: &mut [u8], each: impl FnMut(Step)) -> usize {
+    run_on(&mut Machine::default(), operation, script, answers, each)
+}
+/// Runs a script of the operations that are found by their op octets.
+fn run_on<M>(
+    machine: &mut M,
+    operation: fn(u8) -> Option<&'static Operation<M>>,
+    script: &[u8],
+    answers: &mut [u8],
+    mut each: impl FnMut(Step<M>),
+) -> usize {
     if answers.is_empty() {
         return 0;
     }
-    let mut machine = Machine::default();
     let (mut at, mut written) = (0, 0);
     let end = loop {
-        let operation = match next(&script[at..], answers.len() - written) {
+        let operation = match next(operation, &script[at..], answers.len() - written) {
             Ok(operation) => operation,
             Err(end) => break end,
         };
         let operands = at + 1..at + 1 + operation.operands;
         let room = &mut answers[written..written + operation.longest];
-        let length = answer(operation, &mut machine, &script[operands.clone()], room);
+        let length = answer(operation, machine, &script[operands.clone()], room);
         at = operands.end;
         each(Step {
             operation,
@@ -202,7 +213,11 @@ pub fn run_each(script: &[u8], answers: &mut [u8], mut each: impl FnMut(Step)) -
     written + 1
 }
 /// The operation that the rest of the script begins with, or the end octet instead of it.
-fn next(rest: &[u8], room: usize) -> Result<&'static Operation, u8> {
+fn next<M>(
+    operation: fn(u8) -> Option<&'static Operation<M>>,
+    rest: &[u8],
+    room: usize,
+) -> Result<&'static Operation<M>, u8> {
     let (op, rest) = rest.split_first().ok_or(END)?;
     let operation = operation(*op).ok_or(END_UNKNOWN)?;
     if rest.len() < operation.operands {
@@ -214,7 +229,7 @@ fn next(rest: &[u8], room: usize) -> Result<&'static Operation, u8> {
     Ok(operation)
 }
 /// Writes the answer of one operation into its room and gives its length.
-fn answer(operation: &Operation, machine: &mut Machine, operands: &[u8], room: &mut [u8]) -> usize {
+fn answer<M>(operation: &Operation<M>, machine: &mut M, operands: &[u8], room: &mut [u8]) -> usize {
     let (number, octets) = room
         .split_first_mut()
         .expect("a longest answer is 1 at least");
@@ -271,8 +286,8 @@ impl Machine {
 }
 
 /// An operation that is being run.
-struct Call<'a> {
-    machine: &'a mut Machine,
+struct Call<'a, M = Machine> {
+    machine: &'a mut M,
     operands: Operands<'a>,
     values: Values<'a>,
 }
@@ -547,9 +562,12 @@ fn information(octets: &[u8]) -> Result<Vec<bool>, Refusal> {
 }
 
 fn message(call: &mut Call<'_>) -> Answered {
-    let start = 8 * usize::from(call.operands.octet());
+    set_eighth(&mut call.machine.message, &mut call.operands)
+}
+fn set_eighth(message: &mut [u8; MESSAGE_OCTETS], operands: &mut Operands<'_>) -> Answered {
+    let start = 8 * usize::from(operands.octet());
     call_if(start < MESSAGE_OCTETS)?;
-    call.machine.message[start..start + 8].copy_from_slice(&call.operands.octets::<8>());
+    message[start..start + 8].copy_from_slice(&operands.octets::<8>());
     Ok(())
 }
 

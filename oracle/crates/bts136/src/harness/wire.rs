@@ -78,16 +78,20 @@ pub fn octet(bits: &[bool], index: usize) -> u8 {
 pub fn header(octets: [u8; HEADER_OCTETS]) -> Option<ArqHeader> {
     let [usage, flags, partial_echo, polling, response_mode] = octets;
     Some(ArqHeader {
-        channel: match usage {
-            3 => Channel::Arch,
-            4 => Channel::Smsch,
-            7 => Channel::Pch,
-            _ => return None,
-        },
+        channel: channel(usage)?,
         flags: header_flags(flags)?,
         partial_echo,
         polling: flag(polling)?,
         response_mode: mode(response_mode)?,
+    })
+}
+/// `None` if the octet names no channel.
+pub fn channel(usage: u8) -> Option<Channel> {
+    Some(match usage {
+        3 => Channel::Arch,
+        4 => Channel::Smsch,
+        7 => Channel::Pch,
+        _ => return None,
     })
 }
 fn mode(octet: u8) -> Option<ResponseMode> {
@@ -237,6 +241,13 @@ pub fn status_octets(status: Option<&ArqStatus>) -> [u8; STATUS_OCTETS] {
     }
     octets
 }
+/// The upper six bits of the map are of no frame.
+pub fn status(partial_echo: u8, map: u32) -> ArqStatus {
+    ArqStatus {
+        partial_echo,
+        received_frames: std::array::from_fn(|frame| map >> frame & 1 != 0),
+    }
+}
 fn mode_octet(mode: ResponseMode) -> u8 {
     u8::from(mode == ResponseMode::Reservation)
 }
@@ -267,10 +278,7 @@ pub fn transmission(
 ) -> Option<StatusTransmission> {
     let map = u32::from_be_bytes(*octets[1..].first_chunk()?);
     let request = StatusRequest {
-        status: ArqStatus {
-            partial_echo: octets[0],
-            received_frames: std::array::from_fn(|frame| map >> frame & 1 != 0),
-        },
+        status: status(octets[0], map),
         response_mode: mode(octets[5])?,
     };
     let (unsolicited, complete_at_poll) = (flag(octets[14])?, flag(octets[15])?);

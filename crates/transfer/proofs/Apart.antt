@@ -1,0 +1,48 @@
+-- Two errors of the sender that have one number are the same. Assumes nothing.
+use mathlib.Core.Path.{_≡_, refl, ap, _∙_}
+use mathlib.Core.Bool.{true, cond}
+use Prim.Native.Nat.{ℕ}
+use lib.Dec.{eqb, ltb}
+use Rattle.spach.specs.declared.SpachError.{SpachError}
+use Rattle.spach.specs.declared.SpachError.the-variants as errors
+use Rattle.spach.specs.Refusal.{numberOf}
+use Rattle.spach.proofs.Apart.{errorOf, error-number}
+use Rattle.transfer.specs.declared.Error.{Error}
+use Rattle.transfer.specs.declared.Error.the-variants.{Limits, Capacity, EchoExhausted, Clock, Deadline, Stale, Wire}
+use Rattle.transfer.specs.Numbers.{refusalOf}
+
+-- the error of a number
+abbrev pub refusedBy : ℕ → Error
+refusedBy n =
+    cond (ltb n 19) (Wire (errorOf n))
+    (cond (eqb n 19) Limits
+    (cond (eqb n 20) Capacity
+    (cond (eqb n 21) EchoExhausted
+    (cond (eqb n 22) Clock
+    (cond (eqb n 23) Deadline Stale)))))
+
+-- the numbers of `SpachError` are below the sender's
+low : (e : SpachError) → ltb (numberOf e) 19 ≡ true
+low errors.Length = refl
+low errors.Identity = refl
+low errors.UnsupportedUsage = refl
+low errors.UnsupportedFrame = refl
+low errors.Encrypted = refl
+low errors.Reserved = refl
+low errors.Filler = refl
+low errors.PartialEcho = refl
+low errors.FrameNumber = refl
+low errors.Payload = refl
+low errors.DuplicateConflict = refl
+low errors.Padding = refl
+low errors.Room = refl
+low errors.Tokens = refl
+
+pub refusal-number : (e : Error) → refusedBy (refusalOf e) ≡ e
+refusal-number Limits = refl
+refusal-number Capacity = refl
+refusal-number EchoExhausted = refl
+refusal-number Clock = refl
+refusal-number Deadline = refl
+refusal-number Stale = refl
+refusal-number (Wire e) = rw (low e) (ap Wire (error-number e))
