@@ -30,28 +30,34 @@ use Rattle.sender.specs.Arrays.{viewOf, selectionOf}
 
 -- ---- answers
 
+-- an answer that has no value
 abbrev pub verdictOf : Verdict → Outcome Unit
 verdictOf verdicts.Accepted = gives tt
 verdictOf (verdicts.Refused e) = refuses (refusalOf e)
 
+-- the transfer's token
 abbrev pub enqueueAnswer : EnqueueAnswer → Outcome TransferToken
 enqueueAnswer (enqueues.Transfer t) = gives t
 enqueueAnswer (enqueues.Refused e) = refuses (refusalOf e)
 
+-- how many frames, and the echo
 abbrev pub grantAnswer : GrantAnswer → Outcome Grant
 grantAnswer (grants.Granted frames echo) = gives (record { frames = frames; echo = echo })
 grantAnswer (grants.Refused e) = refuses (refusalOf e)
 
+-- found or not
 abbrev pub foundAnswer : FoundAnswer → Outcome Bool
 foundAnswer (founds.Found b) = gives b
 foundAnswer (founds.Refused e) = refuses (refusalOf e)
 
+-- whether a frame was in flight
 abbrev pub confirmationAnswer : ConfirmationAnswer → Outcome Confirmation
 confirmationAnswer (confirmations.Confirmation c) = gives c
 confirmationAnswer (confirmations.Refused e) = refuses (refusalOf e)
 
 -- ---- with the sender afterwards, and the lent memory where it is written
 
+-- the constructor: beside a refusal stands the blank sender
 abbrev pub made : Moved → Outcome Unit × View
 made r = (verdictOf (r .verdict), viewOf (r .sender))
 
@@ -63,9 +69,11 @@ moved r = record { outcome = verdictOf (r .verdict); state = viewOf (r .sender) 
 abbrev pub left : {A : Type 0} → Out A → After A View
 left o = record { outcome = o .outcome; state = o .sender }
 
+-- `submitted`, which writes a word
 abbrev pub submitted : Moved → Lent → Out Unit
 submitted r m = record { outcome = verdictOf (r .verdict); sender = viewOf (r .sender); lent = m }
 
+-- `enqueue`, which writes the message
 abbrev pub enqueued : Enqueued → Lent → Out TransferToken
 enqueued r m = record { outcome = enqueueAnswer (r .answer); sender = viewOf (r .sender); lent = m }
 
@@ -81,6 +89,7 @@ told a = (answered none (a .outcome), a .state)
 abbrev pub sought : Sought → After Bool View
 sought r = record { outcome = foundAnswer (r .answer); state = viewOf (r .sender) }
 
+-- `transmitted`
 abbrev pub confirmed : Confirmed → After Confirmation View
 confirmed r = record { outcome = confirmationAnswer (r .answer); state = viewOf (r .sender) }
 
@@ -88,5 +97,6 @@ confirmed r = record { outcome = confirmationAnswer (r .answer); state = viewOf 
 abbrev pub cancelled : Cancelled → After Bool View
 cancelled r = says (r .found) (viewOf (r .sender))
 
+-- `pop_event`
 abbrev pub popped : Popped → After NextEvent View
 popped r = says (r .next) (viewOf (r .sender))

@@ -1,5 +1,5 @@
-// The sender: up to 128 transfers, in the order in which they are served, and the events of those that ended. A call that can
-// refuse is lent the messages' octets (`store`) and the frames' submissions (`words`).
+// The sender: up to 128 transfers, in the order in which they are served, and the events of those that ended. A call with a
+// clock is lent the messages' octets (`store`) and the frames' submissions (`words`).
 pub mod cancel;
 pub mod clock;
 pub mod enqueue;
@@ -444,7 +444,7 @@ impl Sender {
         CompletionAnswer::Completion(p.completion)
     }
 
-    // Whether the frame was in flight, and whether the Rust calls `completed`.
+    // Whether the frame was in flight, and whether all frames are transmitted with it (01: `completed`).
     pub fn transmitted(
         mut self,
         token: FrameToken,

@@ -42,7 +42,7 @@ use Rattle.transfer.specs.Advance.{fateOf, step, walk, walked, advanceOf
 use Rattle.transfer.specs.Enqueue.{grantOf, accepts, enqueueOf}
 use Rattle.transfer.specs.Prepare.{packedOf, choose, prepareOf, hasEchoOf, interruptOf, prioritizeAt, preparePrioritizedOf}
 use Rattle.transfer.specs.Submitted.{submittedAt, submittedOf, submittedMessageOf, transmittedAt, transmittedOf}
-use Rattle.transfer.specs.Status.{statusAt, statusOf}
+use Rattle.transfer.specs.Status.{shown, statusAt, statusOf}
 use Rattle.transfer.specs.Cancel.{cancelOf, cancelTransactionOf, cancelAllOf}
 use Rattle.transfer.specs.Refresh.{queueWaiting, oldest, serveOldest, refreshWaitingOf}
 use Rattle.transfer.specs.Numbers.{refusalOf}
@@ -236,6 +236,10 @@ one-frame : List (Call × Line)
 one-frame =
     (canEnqueue 0 0, answer true)
     ∷ (enqueue (Tmsi20 1) Arch (65 ∷ []) 7 5000 10 100, owner 100)
+    ∷ (word 0, number 0)
+    ∷ (pending, number 1)
+    ∷ (radioActive, answer false)
+    ∷ (identityForEcho 1, nothing)
     ∷ (state, whole ((7 ∷ 0 ∷ 1 ∷ 1 ∷ 100 ∷ 0 ∷ 100 ∷ 1 ∷ 0 ∷ 0 ∷ 0 ∷ 0 ∷ 0 ∷ 0 ∷ 0 ∷ 5000 ∷ []) ∷ []) [] [] (1 ∷ 10 ∷ 100 ∷ 101 ∷ []))
     ∷ (prepare 10 100, frame 100 101 0 0 (0x61 ∷ 0x40 ∷ 0x00 ∷ 0x00 ∷ 0x20 ∷ 0x08 ∷ 0x05 ∷ 0x04 ∷ replicate 6 0))
     ∷ (prepare 11 100, frame 100 101 0 0 (0x61 ∷ 0x40 ∷ 0x00 ∷ 0x00 ∷ 0x20 ∷ 0x08 ∷ 0x05 ∷ 0x04 ∷ replicate 6 0))
@@ -264,11 +268,16 @@ three-frames =
     ∷ (submitted 100 101 0 10 100, done)
     ∷ (prepare 11 100, frame 100 102 1 0 (0x81 ∷ 0x80 ∷ 0x00 ∷ 0x02 ∷ 0x82 ∷ 0x82 ∷ 0x82 ∷ 0x82 ∷ 0x82 ∷ 0x82 ∷ 0x82 ∷ 0x82 ∷ 0x82 ∷ 0x80 ∷ []))
     ∷ (submitted 100 102 1 11 100, done)
+    ∷ (submittedMessage 100 101 0, nothing)
     ∷ (status 0 0xfc000003 12 100, answer true)
     ∷ (state, whole ((1 ∷ 0 ∷ 17 ∷ 3 ∷ 100 ∷ 0 ∷ 100 ∷ 4 ∷ 3 ∷ 0 ∷ 2 ∷ 1 ∷ 13 ∷ 12 ∷ 0 ∷ 5000 ∷ []) ∷ []) [] [] (1 ∷ 12 ∷ 100 ∷ 103 ∷ []))
     ∷ (prepare 13 100, frame 100 103 2 0 (0x81 ∷ 0x80 ∷ 0x01 ∷ 0x05 ∷ replicate 10 0))
     ∷ (submitted 100 103 2 13 100, done)
     ∷ (submittedMessage 100 103 2, number 1)
+    ∷ (submittedMessage 100 999 77, number 1)
+    ∷ (word 1, number 102)
+    ∷ (word 2, number 103)
+    ∷ (word 3, number 0)
     ∷ (transmitted 100 101 0 14 100, confirmed false)
     ∷ (transmitted 100 102 1 14 100, confirmed false)
     ∷ (transmitted 100 103 2 15 100, confirmed true)
@@ -277,7 +286,7 @@ three-frames =
     ∷ (prepare 15 100, frame 100 104 2 0 (0x81 ∷ 0x80 ∷ 0x01 ∷ 0x05 ∷ replicate 10 0))
     ∷ (submitted 100 104 2 15 100, done)
     ∷ (transmitted 100 104 2 16 100, confirmed true)
-    ∷ (status 0 3 17 100, answer true)
+    ∷ (status 0 2 17 100, answer true)
     ∷ (pop, event 0 1)
     ∷ []
 
@@ -297,6 +306,9 @@ restarts =
     ∷ (status 0 0 74 100, answer false)
     ∷ (status 1 0 74 100, answer false)
     ∷ (prepare 74 100, frame 102 103 0 1 (0x61 ∷ 0x40 ∷ 0x00 ∷ 0x00 ∷ 0x20 ∷ 0x40 ∷ 0x45 ∷ 0x05 ∷ 0x05 ∷ 0x05 ∷ 0x05 ∷ 0x05 ∷ 0x05 ∷ 0x00 ∷ []))
+    ∷ (cancelTransaction 102, answer false)
+    ∷ (cancelTransaction 100, answer true)
+    ∷ (pop, event 2 1)
     ∷ []
 
 -- waiting since 20, refreshed and sent again at 40: restart at 84, and not at 104
@@ -333,6 +345,8 @@ equal-ages =
     ∷ (submitted 101 104 0 10 100, done)
     ∷ (prepare 10 100, frame 102 105 0 2 (0x61 ∷ 0x40 ∷ 0x00 ∷ 0x00 ∷ 0x60 ∷ 0x88 ∷ 0x05 ∷ 0x0c ∷ replicate 6 0))
     ∷ (submitted 102 105 0 10 100, done)
+    ∷ (word 27, number 104)
+    ∷ (word 54, number 105)
     ∷ (transmitted 100 103 0 11 100, confirmed true)
     ∷ (transmitted 101 104 0 11 100, confirmed true)
     ∷ (transmitted 102 105 0 11 100, confirmed true)
@@ -353,7 +367,7 @@ equal-ages =
 replacement : List (Call × Line)
 replacement =
     (enqueue (Tmsi20 2) Arch (66 ∷ []) 2 5000 10 100, owner 100)
-    ∷ (enqueue (Tmsi20 3) Arch (replicate 2 67) 3 5000 10 100, owner 101)
+    ∷ (enqueue (Tmsi20 3) Arch (replicate 4 67) 3 5000 10 100, owner 101)
     ∷ (enqueue (Tmsi20 4) Arch (68 ∷ []) 4 5000 10 100, owner 102)
     ∷ (enqueue (Tmsi20 1) Arch (65 ∷ []) 1 5000 10 100, owner 103)
     ∷ (order, numbers (2 ∷ 3 ∷ 4 ∷ 1 ∷ []))
@@ -362,7 +376,7 @@ replacement =
     ∷ (order, numbers (2 ∷ 4 ∷ 1 ∷ 33 ∷ []))
     ∷ (held 1, number 6000)
     ∷ (held 4, number 7000)
-    ∷ (stored 255 4, numbers (69 ∷ 69 ∷ 69 ∷ 0 ∷ []))
+    ∷ (stored 255 4, numbers (69 ∷ 69 ∷ 69 ∷ 67 ∷ []))
     ∷ (state, whole ((2 ∷ 0 ∷ 1 ∷ 1 ∷ 100 ∷ 0 ∷ 100 ∷ 1 ∷ 0 ∷ 0 ∷ 0 ∷ 0 ∷ 0 ∷ 0 ∷ 0 ∷ 5000 ∷ []) ∷ (4 ∷ 2 ∷ 1 ∷ 1 ∷ 102 ∷ 2 ∷ 102 ∷ 1 ∷ 0 ∷ 0 ∷ 0 ∷ 0 ∷ 0 ∷ 0 ∷ 0 ∷ 5000 ∷ []) ∷ (1 ∷ 3 ∷ 1 ∷ 1 ∷ 103 ∷ 3 ∷ 103 ∷ 1 ∷ 0 ∷ 0 ∷ 0 ∷ 0 ∷ 0 ∷ 0 ∷ 0 ∷ 5000 ∷ []) ∷ (33 ∷ 1 ∷ 3 ∷ 1 ∷ 104 ∷ 4 ∷ 104 ∷ 1 ∷ 0 ∷ 0 ∷ 0 ∷ 0 ∷ 0 ∷ 0 ∷ 0 ∷ 6000 ∷ []) ∷ []) (2 ∷ 3 ∷ []) [] (5 ∷ 10 ∷ 100 ∷ 105 ∷ []))
     ∷ (pop, event 2 3)
     ∷ (pop, nothing)
@@ -406,15 +420,16 @@ expires =
     (enqueue (Tmsi20 1) Arch (65 ∷ []) 1 50 10 10, owner 100)
     ∷ (prepare 10 10, frame 100 101 0 0 (0x61 ∷ 0x40 ∷ 0x00 ∷ 0x00 ∷ 0x20 ∷ 0x08 ∷ 0x05 ∷ 0x04 ∷ replicate 6 0))
     ∷ (interrupt 9 11 50, answer false)
-    ∷ (transmitted 100 101 0 11 50, unknown)
     ∷ (transmitted 99 101 0 11 50, unknown)
-    ∷ (state, whole ((1 ∷ 0 ∷ 1 ∷ 1 ∷ 100 ∷ 0 ∷ 100 ∷ 1 ∷ 0 ∷ 0 ∷ 0 ∷ 0 ∷ 0 ∷ 0 ∷ 0 ∷ 50 ∷ []) ∷ []) [] (100 ∷ 101 ∷ 0 ∷ 0 ∷ []) (1 ∷ 11 ∷ 50 ∷ 102 ∷ []))
+    ∷ (transmitted 100 101 0 12 60, unknown)
+    ∷ (state, whole ((1 ∷ 0 ∷ 1 ∷ 1 ∷ 100 ∷ 0 ∷ 100 ∷ 1 ∷ 0 ∷ 0 ∷ 0 ∷ 0 ∷ 0 ∷ 0 ∷ 0 ∷ 50 ∷ []) ∷ []) [] (100 ∷ 101 ∷ 0 ∷ 0 ∷ []) (1 ∷ 12 ∷ 60 ∷ 102 ∷ []))
     ∷ (submitted 100 101 0 12 70, done)
     ∷ (radioActive, answer true)
     ∷ (state, whole ((1 ∷ 0 ∷ 1 ∷ 1 ∷ 100 ∷ 0 ∷ 100 ∷ 0 ∷ 1 ∷ 0 ∷ 0 ∷ 0 ∷ 13 ∷ 13 ∷ 0 ∷ 50 ∷ []) ∷ []) [] [] (1 ∷ 12 ∷ 70 ∷ 102 ∷ []))
     ∷ (transmitted 100 101 0 12 70, confirmed true)
     ∷ (pop, event 1 1)
     ∷ (enqueue (Tmsi20 1) Arch (65 ∷ []) 2 100 12 70, owner 102)
+    ∷ (word 0, number 101)
     ∷ (prepare 12 70, frame 102 103 0 1 (0x61 ∷ 0x40 ∷ 0x00 ∷ 0x00 ∷ 0x20 ∷ 0x48 ∷ 0x05 ∷ 0x04 ∷ replicate 6 0))
     ∷ (submitted 102 103 0 12 70, done)
     ∷ (transmitted 102 103 0 12 70, confirmed true)
@@ -447,6 +462,9 @@ prioritized =
     ∷ (state, whole ((1 ∷ 0 ∷ 1 ∷ 1 ∷ 100 ∷ 0 ∷ 100 ∷ 0 ∷ 1 ∷ 0 ∷ 0 ∷ 0 ∷ 11 ∷ 11 ∷ 0 ∷ 5000 ∷ []) ∷ (2 ∷ 1 ∷ 1 ∷ 1 ∷ 101 ∷ 1 ∷ 101 ∷ 1 ∷ 0 ∷ 0 ∷ 0 ∷ 0 ∷ 0 ∷ 0 ∷ 0 ∷ 5000 ∷ []) ∷ (3 ∷ 2 ∷ 1 ∷ 1 ∷ 102 ∷ 2 ∷ 102 ∷ 1 ∷ 0 ∷ 0 ∷ 0 ∷ 0 ∷ 0 ∷ 0 ∷ 0 ∷ 5000 ∷ []) ∷ []) [] [] (3 ∷ 10 ∷ 100 ∷ 105 ∷ []))
     ∷ (submitted 101 104 0 10 100, refused 24)
     ∷ (prepare 10 100, frame 101 105 0 1 (0x61 ∷ 0x40 ∷ 0x00 ∷ 0x00 ∷ 0x40 ∷ 0x48 ∷ 0x05 ∷ 0x08 ∷ replicate 6 0))
+    ∷ (submitted 101 104 0 10 100, refused 24)
+    ∷ (submitted 102 105 0 10 100, refused 24)
+    ∷ (submitted 101 105 1 10 100, refused 24)
     ∷ (transmitted 100 103 0 11 100, confirmed true)
     ∷ (prioritize 0 11 100, frame 100 106 0 0 (0x61 ∷ 0x40 ∷ 0x00 ∷ 0x00 ∷ 0x20 ∷ 0x08 ∷ 0x05 ∷ 0x04 ∷ replicate 6 0))
     ∷ (order, numbers (1 ∷ 2 ∷ 3 ∷ []))
@@ -464,6 +482,9 @@ interrupted =
     ∷ (state, whole ((1 ∷ 0 ∷ 1 ∷ 1 ∷ 100 ∷ 2 ∷ 103 ∷ 1 ∷ 0 ∷ 0 ∷ 0 ∷ 0 ∷ 0 ∷ 0 ∷ 0 ∷ 5000 ∷ []) ∷ (2 ∷ 1 ∷ 1 ∷ 1 ∷ 101 ∷ 1 ∷ 101 ∷ 1 ∷ 0 ∷ 0 ∷ 0 ∷ 0 ∷ 0 ∷ 0 ∷ 0 ∷ 5000 ∷ []) ∷ []) [] [] (3 ∷ 10 ∷ 100 ∷ 104 ∷ []))
     ∷ (submitted 100 102 0 10 100, refused 24)
     ∷ (prepare 10 100, frame 103 104 0 2 (0x61 ∷ 0x40 ∷ 0x00 ∷ 0x00 ∷ 0x20 ∷ 0x88 ∷ 0x05 ∷ 0x04 ∷ replicate 6 0))
+    ∷ (cancel (Tmsi20 2), answer true)
+    ∷ (enqueue (Tmsi20 3) Arch (67 ∷ []) 3 5000 10 100, owner 105)
+    ∷ (prepare 10 100, frame 103 104 0 2 (0x61 ∷ 0x40 ∷ 0x00 ∷ 0x00 ∷ 0x20 ∷ 0x88 ∷ 0x05 ∷ 0x04 ∷ replicate 6 0))
     ∷ []
 
 -- with no echo free a restart is a Failed event, and takes no token
@@ -472,6 +493,7 @@ shortage =
     (enqueue (Tmsi20 1) Arch (65 ∷ []) 1 1000 10 5, owner 227)
     ∷ (prepare 10 5, frame 227 228 0 127 (0x61 ∷ 0x40 ∷ 0x00 ∷ 0x00 ∷ 0x3f ∷ 0xc8 ∷ 0x05 ∷ 0x04 ∷ replicate 6 0))
     ∷ (canEnqueue 10 5, answer false)
+    ∷ (canEnqueue 10 1000000, answer true)
     ∷ (enqueue (Tmsi20 2) Arch (66 ∷ []) 2 1000 10 5, refused 21)
     ∷ (interrupt 127 10 6, answer true)
     ∷ (state, whole [] (21 ∷ 1 ∷ []) [] (0 ∷ 10 ∷ 6 ∷ 229 ∷ []))
@@ -536,7 +558,9 @@ tokens-short =
 -- `enqueue`: 22, either clock; then, at a clock that stays moved, 23, 1, 1, 3, 2, 21, 23, each before the next; then 20, 1, 22, 20
 in-order : List (Call × Line)
 in-order =
-    (advance 10 100, done)
+    (canEnqueue 19 0, answer false)
+    ∷ (canEnqueue 20 0, answer true)
+    ∷ (advance 10 100, done)
     ∷ (enqueue (Tmsi20 1) Arch (65 ∷ []) 1 50 9 100, refused 22)
     ∷ (enqueue (Tmsi20 1) Arch (65 ∷ []) 1 50 10 99, refused 22)
     ∷ (enqueue (Tmsi20 1) Arch [] 1 100 11 100, refused 23)
@@ -552,10 +576,17 @@ in-order =
     ∷ (enqueue (Tmsi20 2) Arch (replicate 256 65) 1 18446744073709550615 20 100, refused 20)
     ∷ (enqueue (Tmsi20 2) Arch [] 1 18446744073709550615 20 100, refused 1)
     ∷ (cancelAll, done)
+    ∷ (canEnqueue 21 100, answer false)
     ∷ (enqueue (Tmsi20 1) Arch [] 1 100 19 100, refused 22)
     ∷ (enqueue (Tmsi20 1) Arch [] 1 100 21 100, refused 20)
     ∷ (state, whole [] (2 ∷ 1 ∷ []) [] (1 ∷ 21 ∷ 100 ∷ 18446744073709550001 ∷ []))
     ∷ (pop, event 2 1)
+    ∷ (enqueue (Tmsi20 1) Arch (65 ∷ []) 2 5000 21 100, owner 18446744073709550001)
+    ∷ (enqueue (Tmsi20 1) Arch (65 ∷ []) 3 5000 21 100, owner 18446744073709550002)
+    ∷ (cancel (Tmsi20 1), answer true)
+    ∷ (pop, event 2 2)
+    ∷ (pop, event 2 3)
+    ∷ (pop, nothing)
     ∷ []
 
 -- `enqueue`: deadline plus guard over 64 bits 23, before no echo free 21; the transfer that would be replaced stays
@@ -566,6 +597,116 @@ no-echo =
     ∷ (enqueue (Tmsi20 1) Arch (65 ∷ []) 1 5000 10 100, refused 21)
     ∷ (state, whole ((1 ∷ 0 ∷ 1 ∷ 1 ∷ 227 ∷ 127 ∷ 227 ∷ 1 ∷ 0 ∷ 0 ∷ 0 ∷ 0 ∷ 0 ∷ 0 ∷ 0 ∷ 5000 ∷ []) ∷ []) [] [] (0 ∷ 10 ∷ 100 ∷ 228 ∷ []))
     ∷ []
+
+-- refresh: the greatest age comes first, only of those that are ready; a waiting transfer is queued also while another's frame is selected
+refreshes : List (Call × Line)
+refreshes =
+    (enqueue (Tmsi20 1) Arch (65 ∷ []) 1 5000 10 100, owner 100)
+    ∷ (enqueue (Tmsi20 2) Arch (66 ∷ []) 2 5000 10 100, owner 101)
+    ∷ (prepare 10 100, frame 100 102 0 0 (0x61 ∷ 0x40 ∷ 0x00 ∷ 0x00 ∷ 0x20 ∷ 0x08 ∷ 0x05 ∷ 0x04 ∷ replicate 6 0))
+    ∷ (submitted 100 102 0 10 100, done)
+    ∷ (prepare 12 100, frame 101 103 0 1 (0x61 ∷ 0x40 ∷ 0x00 ∷ 0x00 ∷ 0x40 ∷ 0x48 ∷ 0x05 ∷ 0x08 ∷ replicate 6 0))
+    ∷ (submitted 101 103 0 12 100, done)
+    ∷ (transmitted 100 102 0 13 100, confirmed true)
+    ∷ (transmitted 101 103 0 13 100, confirmed true)
+    ∷ (refresh 30 100, done)
+    ∷ (order, numbers (1 ∷ 2 ∷ []))
+    ∷ (queue 1, numbers (0 ∷ []))
+    ∷ (prepare 30 100, frame 100 104 0 0 (0x61 ∷ 0x40 ∷ 0x00 ∷ 0x00 ∷ 0x20 ∷ 0x08 ∷ 0x05 ∷ 0x04 ∷ replicate 6 0))
+    ∷ (submitted 100 104 0 30 100, done)
+    ∷ (prepare 31 100, frame 101 105 0 1 (0x61 ∷ 0x40 ∷ 0x00 ∷ 0x00 ∷ 0x40 ∷ 0x48 ∷ 0x05 ∷ 0x08 ∷ replicate 6 0))
+    ∷ (submitted 101 105 0 31 100, done)
+    ∷ (transmitted 101 105 0 32 100, confirmed true)
+    ∷ (refresh 47 100, done)
+    ∷ (order, numbers (2 ∷ 1 ∷ []))
+    ∷ (prepare 47 100, frame 101 106 0 1 (0x61 ∷ 0x40 ∷ 0x00 ∷ 0x00 ∷ 0x40 ∷ 0x48 ∷ 0x05 ∷ 0x08 ∷ replicate 6 0))
+    ∷ (transmitted 100 104 0 48 100, confirmed true)
+    ∷ (refresh 48 100, done)
+    ∷ (order, numbers (2 ∷ 1 ∷ []))
+    ∷ (queue 1, numbers (0 ∷ []))
+    ∷ (prepare 48 100, frame 101 106 0 1 (0x61 ∷ 0x40 ∷ 0x00 ∷ 0x00 ∷ 0x40 ∷ 0x48 ∷ 0x05 ∷ 0x08 ∷ replicate 6 0))
+    ∷ []
+
+-- a transfer with frames queued is served first from 16 blocks on; asked for by its echo it goes on with its queue; later its last frame is refreshed
+later-frames : List (Call × Line)
+later-frames =
+    (enqueue (Tmsi20 1) Arch (replicate 17 65) 1 5000 10 100, owner 100)
+    ∷ (enqueue (Tmsi20 2) Arch (66 ∷ []) 2 5000 10 100, owner 101)
+    ∷ (prepare 10 100, frame 100 102 0 0 (0x61 ∷ 0x40 ∷ 0x00 ∷ 0x00 ∷ 0x20 ∷ 0x00 ∷ 0x45 ∷ 0x05 ∷ 0x05 ∷ 0x05 ∷ 0x05 ∷ 0x05 ∷ 0x05 ∷ 0x00 ∷ []))
+    ∷ (submitted 100 102 0 10 100, done)
+    ∷ (refresh 25 100, done)
+    ∷ (order, numbers (2 ∷ 1 ∷ []))
+    ∷ (refresh 26 100, done)
+    ∷ (order, numbers (1 ∷ 2 ∷ []))
+    ∷ (transmitted 100 102 0 26 100, confirmed false)
+    ∷ (prioritize 0 26 100, frame 100 103 1 0 (0x61 ∷ 0x80 ∷ 0x00 ∷ 0x02 ∷ 0x82 ∷ 0x82 ∷ 0x82 ∷ 0x82 ∷ 0x82 ∷ 0x82 ∷ 0x82 ∷ 0x82 ∷ 0x82 ∷ 0x80 ∷ []))
+    ∷ (submitted 100 103 1 26 100, done)
+    ∷ (prioritize 0 27 100, frame 100 104 2 0 (0x61 ∷ 0x80 ∷ 0x01 ∷ 0x05 ∷ replicate 10 0))
+    ∷ (submitted 100 104 2 27 100, done)
+    ∷ (transmitted 100 103 1 28 100, confirmed false)
+    ∷ (transmitted 100 104 2 28 100, confirmed true)
+    ∷ (refresh 43 100, done)
+    ∷ (queue 0, numbers (2 ∷ []))
+    ∷ []
+
+-- a status while the last frame is in flight again: it waits no more, 64 blocks count from the status, and it is Complete once that frame is transmitted
+in-flight-again : List (Call × Line)
+in-flight-again =
+    (enqueue (Tmsi20 1) Arch (65 ∷ []) 1 5000 10 100, owner 100)
+    ∷ (prepare 10 100, frame 100 101 0 0 (0x61 ∷ 0x40 ∷ 0x00 ∷ 0x00 ∷ 0x20 ∷ 0x08 ∷ 0x05 ∷ 0x04 ∷ replicate 6 0))
+    ∷ (submitted 100 101 0 10 100, done)
+    ∷ (transmitted 100 101 0 11 100, confirmed true)
+    ∷ (refresh 26 100, done)
+    ∷ (prepare 26 100, frame 100 102 0 0 (0x61 ∷ 0x40 ∷ 0x00 ∷ 0x00 ∷ 0x20 ∷ 0x08 ∷ 0x05 ∷ 0x04 ∷ replicate 6 0))
+    ∷ (submitted 100 102 0 26 100, done)
+    ∷ (status 0 0 27 100, answer true)
+    ∷ (advance 75 100, done)
+    ∷ (hasEcho 0, answer true)
+    ∷ (advance 90 100, done)
+    ∷ (hasEcho 0, answer true)
+    ∷ (transmitted 100 102 0 90 100, confirmed true)
+    ∷ (pop, event 0 1)
+    ∷ []
+
+-- each of these calls advances first; an overdue transfer that is replaced is Cancelled
+at-the-deadline : List (Call × Line)
+at-the-deadline =
+    (enqueue (Tmsi20 1) Arch (65 ∷ []) 1 200 10 100, owner 100)
+    ∷ (prepare 11 200, nothing)
+    ∷ (pop, event 1 1)
+    ∷ (enqueue (Tmsi20 1) Arch (65 ∷ []) 2 300 11 200, owner 101)
+    ∷ (prioritize 1 11 300, nothing)
+    ∷ (pop, event 1 2)
+    ∷ (enqueue (Tmsi20 1) Arch (65 ∷ []) 3 400 11 300, owner 102)
+    ∷ (refresh 12 400, done)
+    ∷ (pop, event 1 3)
+    ∷ (enqueue (Tmsi20 1) Arch (65 ∷ []) 4 500 12 400, owner 103)
+    ∷ (enqueue (Tmsi20 1) Arch (65 ∷ []) 5 600 12 550, owner 104)
+    ∷ (pop, event 2 4)
+    ∷ (prioritize 9 13 560, nothing)
+    ∷ (advance 12 560, refused 22)
+    ∷ []
+
+-- two restart in one walk, and two expire: echoes, tokens and events in the order of the list
+two-at-once : List (Call × Line)
+two-at-once =
+    (enqueue (Tmsi20 1) Arch (65 ∷ []) 1 500 10 100, owner 100)
+    ∷ (enqueue (Tmsi20 2) Arch (66 ∷ []) 2 500 10 100, owner 101)
+    ∷ (prepare 10 100, frame 100 102 0 0 (0x61 ∷ 0x40 ∷ 0x00 ∷ 0x00 ∷ 0x20 ∷ 0x08 ∷ 0x05 ∷ 0x04 ∷ replicate 6 0))
+    ∷ (submitted 100 102 0 10 100, done)
+    ∷ (prepare 10 100, frame 101 103 0 1 (0x61 ∷ 0x40 ∷ 0x00 ∷ 0x00 ∷ 0x40 ∷ 0x48 ∷ 0x05 ∷ 0x08 ∷ replicate 6 0))
+    ∷ (submitted 101 103 0 10 100, done)
+    ∷ (advance 74 100, done)
+    ∷ (state, whole ((1 ∷ 0 ∷ 1 ∷ 1 ∷ 100 ∷ 2 ∷ 104 ∷ 1 ∷ 0 ∷ 0 ∷ 0 ∷ 0 ∷ 0 ∷ 0 ∷ 0 ∷ 500 ∷ []) ∷ (2 ∷ 1 ∷ 1 ∷ 1 ∷ 101 ∷ 3 ∷ 105 ∷ 1 ∷ 0 ∷ 0 ∷ 0 ∷ 0 ∷ 0 ∷ 0 ∷ 0 ∷ 500 ∷ []) ∷ []) [] [] (4 ∷ 74 ∷ 100 ∷ 106 ∷ []))
+    ∷ (advance 74 500, done)
+    ∷ (pop, event 1 1)
+    ∷ (pop, event 1 2)
+    ∷ (pop, nothing)
+    ∷ []
+
+-- 26 bits of a status are read, and no more: Continues 0 to 25 are the frames 1 to 26
+shows-26 : (shown 0xffffffff ≡ 134217726) × (shown 0xfc000000 ≡ 0)
+shows-26 = (refl, refl)
 
 -- ---- the constructor
 
@@ -592,5 +733,10 @@ settled : Lives (fresh 4 1000 0 100) one-frame
     × Lives (fresh 2 1000 0 18446744073709551102) tokens-short
     × Lives (fresh 1 1000 20 18446744073709550000) in-order
     × Lives (crowded 1000000 (fresh 2 1000 0 100)) no-echo
-unfolding one-frame three-frames restarts waits equal-ages replacement shared-echo expires prioritized interrupted shortage answered-again store-short tokens-short in-order no-echo octets bitsOf bits value layout upTo anySet same inRange encodable packed beginFrame continueFrame encodeOf countOf frameOf ones onesIn trailingZeros framesOf freeEcho doneOf settleOf fateOf step walk walked advanceOf grantOf accepts enqueueOf packedOf choose prepareOf interruptOf prioritizeAt preparePrioritizedOf submittedAt submittedOf submittedMessageOf transmittedAt transmittedOf statusAt statusOf cancelOf cancelTransactionOf cancelAllOf queueWaiting oldest serveOldest refreshWaitingOf canEnqueueOf identityForEchoOf popEventOf
-settled = (refl, refl, refl, refl, refl, refl, refl, refl, refl, refl, refl, refl, refl, refl, refl, refl)
+    × Lives (fresh 4 0 0 100) refreshes
+    × Lives (fresh 4 0 0 100) later-frames
+    × Lives (fresh 2 0 0 100) in-flight-again
+    × Lives (fresh 4 0 0 100) at-the-deadline
+    × Lives (fresh 4 0 0 100) two-at-once
+unfolding one-frame three-frames restarts waits equal-ages replacement shared-echo expires prioritized interrupted shortage answered-again store-short tokens-short in-order no-echo refreshes later-frames in-flight-again at-the-deadline two-at-once octets bitsOf bits value layout upTo anySet same inRange encodable packed beginFrame continueFrame encodeOf countOf frameOf ones onesIn trailingZeros framesOf freeEcho doneOf settleOf fateOf step walk walked advanceOf grantOf accepts enqueueOf packedOf choose prepareOf interruptOf prioritizeAt preparePrioritizedOf submittedAt submittedOf submittedMessageOf transmittedAt transmittedOf statusAt statusOf cancelOf cancelTransactionOf cancelAllOf queueWaiting oldest serveOldest refreshWaitingOf canEnqueueOf identityForEchoOf popEventOf
+settled = (refl, refl, refl, refl, refl, refl, refl, refl, refl, refl, refl, refl, refl, refl, refl, refl, refl, refl, refl, refl, refl)

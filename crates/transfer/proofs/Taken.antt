@@ -1,6 +1,6 @@
 -- Which echoes a call takes, and what that makes of any list of calls from a fresh sender. Assumes nothing.
 use mathlib.Core.Path.{_≡_, refl, sym, ap, subst, _∙_}
-use mathlib.Core.Logic.{_⊎_, inl, inr, ⊎-elim}
+use mathlib.Core.Logic.{_⊎_, inl, inr, ⊎-elim, _≢_}
 use mathlib.Core.Bool.{Bool, true, false, cond, _||_}
 use mathlib.Core.List.{List, [], _∷_, _++_, map, foldl, append-nil, append-assoc}
 use mathlib.Core.Option.{Option, none, some}
@@ -9,7 +9,7 @@ use native.Mathlib.Omega.{arith}
 use lib.Dec.{eqb, ltb}
 use lib.ListN.{length, take, drop, getD}
 use lib.Seq.{set-split}
-use borrow.Author.Tests.{eqb-true, eqb-false, leb-false, lt-leb, ltb-true}
+use borrow.Author.Tests.{eqb-true, eqb-false, leb-false, lt-leb, le-ltb, ltb-true}
 use Rattle.token.specs.Token.{stop}
 use Rattle.rach.specs.declared.MobileIdentity.{MobileIdentity}
 use Rattle.spach.specs.Refusal.{Outcome, gives, refuses, refuse, After, onward}
@@ -32,15 +32,15 @@ use Rattle.transfer.specs.State.{Limits, Echoes, Clock, View, Lent, with
 use Rattle.transfer.specs.Echo.{freeEcho, heldUntil, hold}
 use Rattle.transfer.specs.Transfer.{doneOf, settleOf, restartDue, begun}
 use Rattle.transfer.specs.Advance.{overdue, fateOf, kept, restart, landed, step, walk, unasked, walked, advanceOf}
-use Rattle.transfer.specs.Enqueue.{addressed, Grant, grantOf, accepts, enqueueOf, parcelOf, lowestN}
+use Rattle.transfer.specs.Enqueue.{addressed, Grant, grantOf, accepts, enqueueOf, parcelOf, lowestN, granted, allocated}
 use Rattle.transfer.specs.Prepare.{isReady, frontOf, selects, chooseFrom, choose, prepareOf, hasEchoOf, askedFor, interrupted, interruptOf, repeated, onlyEcho, prioritizeAt, preparePrioritizedOf}
 use Rattle.transfer.specs.Submitted.{inFlight, handedIn, submittedAt, submittedOf, confirmFrame, transmittedAt, transmittedOf}
 use Rattle.transfer.specs.Status.{observes, statusAt, statusOf}
 use Rattle.transfer.specs.Cancel.{cancelFirst, cancelOf, ownedBy, cancelTransactionOf, cancelAllOf}
 use Rattle.transfer.specs.Refresh.{refreshed, queueWaiting, oldest, oldestFirst, serveOldest, refreshWaitingOf}
 use Rattle.transfer.specs.Queries.{popFrom, popEventOf}
-use Rattle.transfer.specs.Invariant.{All, all-none, all-more, Some, some-here, some-later, Live, Sound}
-use Rattle.transfer.specs.History.{Call, Enqueue, Advance, Prepare, Interrupt, PreparePrioritized, Submitted, Transmitted, Status, Cancel, CancelTransaction, CancelAll, RefreshWaiting, PopEvent, does, Told, after, run, Each, holdOf, Takes, TakenFree, NoneBefore, TakenTwice, TwoSenders}
+use Rattle.transfer.specs.Invariant.{All, all-none, all-more, Some, some-here, some-later, Live, Sound, Pairs, pairs-none, pairs-more}
+use Rattle.transfer.specs.History.{Call, Enqueue, Advance, Prepare, Interrupt, PreparePrioritized, Submitted, Transmitted, Status, Cancel, CancelTransaction, CancelAll, RefreshWaiting, PopEvent, does, Told, after, run, Each, holdOf, Takes, TakenFree, NoneBefore, TakenTwice, TwoSenders, TakenApart}
 use Rattle.transfer.proofs.Listed.{all-map, all-both, all-one, all-rest, all-in, all-at, all-removed, all-back, some-map, some-all}
 use Rattle.transfer.proofs.Alive.{SameParcel, settled-parcel, repeated-parcel, refreshed-parcel}
 use Rattle.transfer.proofs.Around.{free-now, held-after, held-other}
@@ -562,3 +562,24 @@ taken-twice v calls between c d echo deadline later f t s =
 pub two-senders : TwoSenders
 two-senders v w first second f g h =
     each-both (λ u c n p echo deadline t. each-map (λ a b q. q echo) v first (p (n echo deadline t))) w second (none-before w second g) h
+
+-- pairs of elements that are such
+pairs-with : {A : Type 0} {P : A → Type 0} {R S : A → A → Type 0} → ((x y : A) → P x → P y → R x y → S x y) → {l : List A} → All P l → Pairs R l → Pairs S l
+pairs-with f all-none pairs-none = pairs-none
+pairs-with f (all-more {x = x} p h) (pairs-more r k) = pairs-more (all-map (λ y q. f x y p (q .0) (q .1)) (all-both h r)) (pairs-with f h k)
+
+-- in one call no echo is taken twice
+pub taken-apart : TakenApart
+taken-apart v calls f = each-sound (v .limits) (λ u c h e. go u c h) v calls (fresh-kept v f) refl
+  where
+    late : (u : View) (c : Told) → Sound u → (x : Transfer) → Comes (after u c .clock .«last_ms») u x → u .«next_token» ≤ x .generation .0 → overdue (after u c .clock) x ≡ false
+    late u c h x p a = ⊎-elim (λ o. absurd (unknown u c h x a o)) (λ n. lt-leb (x .parcel .«deadline_ms») (after u c .clock .«last_ms») (n .1)) p
+
+    go : (u : View) (c : Told) → Sound u → Pairs (λ x y. u .«next_token» ≤ x .generation .0 → u .«next_token» ≤ y .generation .0 → x .echo ≢ y .echo) (after u c .transfers)
+    go u c h = pairs-with (λ x y p q d a b. d .echo (late u c h x p a) (late u c h y q b)) (careful u c h .comes) (after-kept u c h .different)
+
+-- a restart of a live transfer asks of `allocate_echo` only whether an echo is free: its other two refusals do not occur
+pub restart-allocates : (v : View) (x : Transfer) (frames : ℕ) → Live (v .limits) (v .clock) (v .echoes) (v .«next_token») x
+    → allocated (v .limits) (v .clock) (v .echoes) (x .parcel .«deadline_ms») frames ≡ granted frames (freeEcho (v .echoes) (v .clock .«last_ms»))
+restart-allocates v x frames h =
+    rw (le-ltb (v .clock .«last_block») (v .limits .«startup_until_block») (h .usable), le-ltb stop (x .parcel .«deadline_ms» + v .limits .«echo_guard_ms») (h .holds .fits)) refl

@@ -1,5 +1,5 @@
 -- 01, module 6: `advance`. Each live transfer in turn ends with an event, restarts, or stays; those that go on keep their order.
--- Believe `fateOf`, which looks at the transfer and the clock alone, and `restart`. Assumes nothing.
+-- Believe `fateOf`, which looks at the transfer, the clock and whether a restart is asked for, and `restart`. Assumes nothing.
 use mathlib.Core.Bool.{Bool, false, cond, _||_}
 use mathlib.Core.List.{List, [], map, foldl}
 use mathlib.Core.Option.{Option, none, some}

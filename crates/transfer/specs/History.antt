@@ -1,5 +1,5 @@
 -- What holds over any list of calls from a fresh sender. Read `Call`, `does` and `Takes`; then the claims: `OnlyTaken`, `TakenFree`,
--- `NoneBefore` and `TakenTwice` of one sender, `TwoSenders` of two, and `AcceptedOnce` and `Faithful` of the frames. They are
+-- `NoneBefore`, `TakenTwice` and `TakenApart` of one sender, `TwoSenders` of two, and `AcceptedOnce` and `Faithful` of the frames. They are
 -- proved in proofs/Holds.antt, Taken.antt, Once.antt and Faithful.antt; Instance.antt and Witness.antt show that they are not empty.
 -- Assumes nothing.
 use mathlib.Core.Path.{_≡_}
@@ -31,7 +31,7 @@ use Rattle.transfer.specs.Status.{statusOf}
 use Rattle.transfer.specs.Cancel.{cancelOf, cancelTransactionOf, cancelAllOf}
 use Rattle.transfer.specs.Refresh.{refreshWaitingOf}
 use Rattle.transfer.specs.Queries.{popEventOf}
-use Rattle.transfer.specs.Invariant.{Some}
+use Rattle.transfer.specs.Invariant.{Some, Pairs}
 
 -- ---- calls
 
@@ -152,6 +152,11 @@ TakenTwice = (v : View) (calls between : List Told) (c d : Told) (echo deadline 
     Takes first c echo deadline → Takes second d echo later →
     heldUntil (v .limits) deadline ≤ after second d .clock .«last_ms»
 
+-- and in one call no echo is taken twice
+abbrev pub TakenApart : Type 0
+TakenApart = (v : View) (calls : List Told) → Fresh v →
+    Each (λ u c. Pairs (λ x y. u .«next_token» ≤ x .generation .0 → u .«next_token» ≤ y .generation .0 → x .echo ≢ y .echo) (after u c .transfers)) v calls
+
 -- a time is at or after every deadline plus guard of the echoes that a sender takes over its calls
 abbrev pub Past : View → List Told → (time : ℕ) → Type 0
 Past v calls time = Each (λ u c. (echo deadline : ℕ) → Takes u c echo deadline → heldUntil (v .limits) deadline ≤ time) v calls
@@ -160,7 +165,7 @@ Past v calls time = Each (λ u c. (echo deadline : ℕ) → Takes u c echo deadl
 abbrev pub PastOf : (echo : ℕ) → View → List Told → (time : ℕ) → Type 0
 PastOf echo v calls time = Each (λ u c. (deadline : ℕ) → Takes u c echo deadline → heldUntil (v .limits) deadline ≤ time) v calls
 
--- two senders, the second perhaps what stands in the first one's place after a power failure: if each time at which the second may
+-- two senders, told the time by one clock, the second perhaps in the first one's place after a power failure: if each time at which the second may
 -- take an echo, its first usable block having come, is past every deadline plus guard of the first, then the second takes no echo
 -- that the first still holds
 abbrev pub TwoSenders : Type 0

@@ -12,7 +12,6 @@ use lib.ListN.{length, getD}
 use Rattle.token.specs.Token.{stop}
 use Rattle.rach.specs.Identity.{same, encodable}
 use Rattle.spach.specs.Header.{usageOf}
-use Rattle.spach.specs.Refusal.{gives}
 use Rattle.arq.specs.Cut.{continues}
 use Rattle.transfer.specs.declared.Since.{Since}
 use Rattle.transfer.specs.declared.Since.the-variants.{Never, Block}
@@ -23,7 +22,7 @@ use Rattle.transfer.specs.State.{Limits, Echoes, Clock, View}
 use Rattle.transfer.specs.Echo.{heldUntil}
 use Rattle.transfer.specs.Transfer.{isSet, wentOut}
 use Rattle.transfer.specs.Advance.{overdue}
-use Rattle.transfer.specs.Prepare.{isReady, frontOf}
+use Rattle.transfer.specs.Prepare.{isReady}
 
 -- ---- lists
 
@@ -87,7 +86,8 @@ pub record Timed (block : ℕ) (x : Transfer) : Type 0 where
   pub waiting : ByBlock block (x .blocks .«waiting_since»)
   pub last-frame : NotAfter (x .blocks .«last_frame») (x .blocks .«last_progress»)
 
--- its echo, until when that is held, and that it is (of an overdue one another may have it)
+-- its echo is one of the 128; while it is not overdue, that echo is held until its deadline plus guard (an overdue one's may be
+-- another's already)
 pub record Holds (l : Limits) (c : Clock) (e : Echoes) (x : Transfer) : Type 0 where
   pub echo : x .echo < 128
   -- deadline plus guard fits in 64 bits
@@ -146,8 +146,3 @@ pub record Sound (v : View) : Type 0 where
   pub different : Pairs (Different (v .clock)) (v .transfers)
   pub selected : Selected (v .transfers) (v .«next_token») (v .selected)
   pub counter : v .«next_token» ≤ stop
-
--- besides, while nobody else writes to the lent store: the selected frame's octets are still those of its queue's front
-abbrev pub StillFront : List Transfer → (octets : List ℕ) → Option PreparedFrame → Type 0
-StillFront l octets none = Unit
-StillFront l octets (some f) = Some (λ x. Chosen f x × (frontOf x octets ≡ gives (record { octets = f .octets }))) l

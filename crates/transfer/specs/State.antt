@@ -1,4 +1,4 @@
--- 01, module 6: what a sender is, on lists, and what every call does first. Read this file first, down to `admitted`; then
+-- 01, module 6: what a sender is, on lists, and what a call with a clock does first. Read this file first, down to `admitted`; then
 -- Queue, Transfer and Echo, what a transfer is made of; then Advance, the walk that most calls begin with; then the calls, in
 -- the order of the Rust: Enqueue, Prepare, Submitted, Status, Cancel, Refresh, Queries. In each file the call's own definition, of
 -- its name and `Of`, comes last. Numbers gives 01's numbers; Invariant says what every sender is that the calls make. Believe
@@ -147,7 +147,7 @@ goesOn v m (refuses n) f = refusal n v m
 
 -- ---- the list of transfers
 
--- the blank transfer, which fills the places past the list
+-- the blank transfer, which stands where none is found
 abbrev pub blankTransfer : Transfer
 blankTransfer = record {
   parcel = record { identity = Tmsi20 0; completion = 0; «deadline_ms» = 0; owner = record { 0 = 0 }; channel = Arch; octets = 0; frames = 0; n = 0 };

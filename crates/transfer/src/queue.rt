@@ -16,14 +16,14 @@ pub fn one_left(queue: u32) -> bool
     u32::count_ones(queue) == 1
 }
 
-// Of as many frames as there are, all.
+// All of so many frames are in the set.
 pub fn full(frames: u8, set: u32) -> bool
     ensures { λ r. ⌜ r ≡ sets.full frames set ⌝ }
 {
     u32::count_ones(set) == frames as u32
 }
 
-// Those of a that are not in b. With `!b` it would denote a subtraction too, which the definition does not have.
+// Those of a that are not in b.
 pub fn without(a: u32, b: u32) -> u32
     ensures { λ r. ⌜ r ≡ sets.without a b ⌝ }
 {

@@ -51,7 +51,9 @@ number-requires : tie.Need-number-requires
 number-requires c κs = search needs
 
 with-sender-requires : tie.Need-with-sender-requires
-with-sender-requires c κs = (c .before .before .before .before .before .before .before .before .before .before .before .before .before .pre, c .before .before .before .before .try-new .ensures .1 (ap verdictOf (c .before .enum-told .given .1)))
+with-sender-requires c κs =
+    let made = c .before .before .before .before .try-new .ensures in
+    (c .before .before .before .before .before .before .before .before .before .before .before .before .before .pre, made .1 (ap verdictOf (c .before .enum-told .given .1)))
 
 returns-2 : tie.Need-returns-2
 returns-2 c = c .with-sender .ensures

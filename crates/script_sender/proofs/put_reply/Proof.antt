@@ -16,7 +16,12 @@ slice-aggregate-put-first : tie.Need-slice-aggregate-put-first
 slice-aggregate-put-first c = search needs
 
 put-first-requires : tie.Need-put-first-requires
-put-first-requires c κs = let n : length (c .before .before .before .before .before .before .args .reply .octets) ≡ 136 = search needs in let l = c .before .before .before .before .least .ensures in let m = c .before .before .before .least2 .ensures in (omega (arith, c .before .before .before .before .before .before .pre, l .1, m .0), omega (arith, n, m .1))
+put-first-requires c κs =
+    let s = c .before .before .before .before .before .before in
+    let n : length (s .args .reply .octets) ≡ 136 = search needs in
+    let l = c .before .before .before .before .least .ensures in
+    let m = c .before .before .before .least2 .ensures in
+    (omega (arith, s .pre, l .1, m .0), omega (arith, n, m .1))
 
 same-length : tie.Need-same-length
 same-length c = search needs

@@ -20,7 +20,9 @@ no-sender-requires : tie.Need-no-sender-requires Inv-loop μ-loop
 no-sender-requires c κs = search needs
 
 loop-holds : tie.Need-loop-holds Inv-loop μ-loop
-loop-holds c = let p = c .before .before .before .before .before .pre in (omega arith, omega arith, refl, p .1, p .2, refl, c .no-sender .ensures, search needs, search needs)
+loop-holds c =
+    let p = c .before .before .before .before .before .pre in
+    (omega arith, omega arith, refl, p .1, p .2, refl, c .no-sender .ensures, search needs, search needs)
 
 shared-slice-read-op : tie.Need-shared-slice-read-op Inv-loop μ-loop
 shared-slice-read-op c = search needs
@@ -95,7 +97,9 @@ returns-3 : tie.Need-returns-3 Inv-loop μ-loop
 returns-3 c = search needs
 
 operands-at-requires : tie.Need-operands-at-requires Inv-loop μ-loop
-operands-at-requires c κs = let i = c .before .before .before .before .before .before .before .loop .inv in (omega (arith, i .0, c .before .if2), omega arith)
+operands-at-requires c κs =
+    let i = c .before .before .before .before .before .before .before .loop .inv in
+    (omega (arith, i .0, c .before .if2), omega arith)
 
 add-at-2 : tie.Need-add-at-2 Inv-loop μ-loop
 add-at-2 c = search needs
@@ -107,7 +111,9 @@ set-message-requires : tie.Need-set-message-requires Inv-loop μ-loop
 set-message-requires c κs = c .before .before .before .before .before .before .before .before .before .before .loop .inv .5
 
 put-reply-requires : tie.Need-put-reply-requires Inv-loop μ-loop
-put-reply-requires c κs = let i = c .before .before .before .before .before .before .before .before .before .before .before .before .before .loop .inv in omega (arith, i .1, i .2)
+put-reply-requires c κs =
+    let i = c .before .before .before .before .before .before .before .before .before .before .before .before .before .loop .inv in
+    omega (arith, i .1, i .2)
 
 add-to : tie.Need-add-to Inv-loop μ-loop
 add-to c = search needs
@@ -116,25 +122,52 @@ loop-less : tie.Need-loop-less Inv-loop μ-loop
 loop-less c = search needs
 
 loop-again : tie.Need-loop-again Inv-loop μ-loop
-loop-again c = let i = c .before .before .before .before .before .before .before .before .before .before .before .before .before .before .before .before .loop .inv in (omega (arith, i .0), omega (arith, i .1), omega (arith, i .2), i .3, i .4, c .before .before .before .before .before .set-message .ensures, i .6, i .7, i .8)
+loop-again c =
+    let i = c .before .before .before .before .before .before .before .before .before .before .before .before .before .before .before .before .loop .inv in
+    (omega (arith, i .0), omega (arith, i .1), omega (arith, i .2), i .3, i .4, c .before .before .before .before .before .set-message .ensures, i .6, i .7, i .8)
 
 slice-aggregate-run : tie.Need-slice-aggregate-run Inv-loop μ-loop
 slice-aggregate-run c = search needs
 
 run-requires : tie.Need-run-requires Inv-loop μ-loop
-run-requires c κs = let i = c .before .before .before .before .before .before .before .before .before .before .before .before .loop .inv in (i .6, i .5, i .3, i .4)
+run-requires c κs =
+    let i = c .before .before .before .before .before .before .before .before .before .before .before .before .loop .inv in
+    (i .6, i .5, i .3, i .4)
 
 put-reply-requires-2 : tie.Need-put-reply-requires-2 Inv-loop μ-loop
-put-reply-requires-2 c κs = let i = c .before .before .before .before .before .before .before .before .before .before .before .before .before .before .before .before .before .before .before .before .loop .inv in omega (arith, i .1, i .2)
+put-reply-requires-2 c κs =
+    let i = c .before .before .before .before .before .before .before .before .before .before .before .before .before .before .before .before .before .before .before .before .loop .inv in
+    omega (arith, i .1, i .2)
 
 add-to-2 : tie.Need-add-to-2 Inv-loop μ-loop
-add-to-2 c = let i = c .before .before .before .before .before .before .before .before .before .before .before .before .before .before .before .before .before .before .before .before .before .before .before .loop .inv in omega (arith, i .1, i .2, i .8, c .before .before .before .before .before .before .before .before .before .before .before .before .before .before .before .before .if3 .left, c .before .before .put-reply2 .ensures .0)
+add-to-2 c =
+    let test = c .before .before .before .before .before .before .before .before .before .before .before .before .before .before .before .before in
+    let i = test .before .before .before .before .before .before .before .loop .inv in
+    omega (arith, i .1, i .2, i .8, test .if3 .left, c .before .before .put-reply2 .ensures .0)
 
 loop-less-2 : tie.Need-loop-less-2 Inv-loop μ-loop
-loop-less-2 c = let i = c .before .before .before .before .before .before .before .before .before .before .before .before .before .before .before .before .before .before .before .before .before .before .before .loop .inv in omega (arith, i .0, c .before .before .before .before .before .before .before .before .before .before .before .before .before .before .before .before .before .if2 .left, c .before .before .before .before .before .before .before .before .before .before .before .before .before .before .before .before .before .before .before .before .before .before .loop-test .taken)
+loop-less-2 c =
+    let test = c .before .before .before .before .before .before .before .before .before .before .before .before .before .before .before .before in
+    let more = test .before .before .before .before .before .before in
+    omega (arith, more .before .loop .inv .0, test .before .if2 .left, more .loop-test .taken)
 
 loop-again-2 : tie.Need-loop-again-2 Inv-loop μ-loop
-loop-again-2 c = let i = c .before .before .before .before .before .before .before .before .before .before .before .before .before .before .before .before .before .before .before .before .before .before .before .loop .inv in let r = c .before .before .before .before .before .before .before .before .before .before .run .ensures in let w = c .before .before .put-reply2 .ensures in (omega (arith, c .before .before .before .before .before .before .before .before .before .before .before .before .before .before .before .before .before .if2 .left, c .before .before .before .before .before .before .before .before .before .before .before .before .before .before .before .before .before .before .before .before .before .before .loop-test .taken), omega (arith, i .1, i .2, c .before .before .before .before .before .before .before .before .before .before .before .before .before .before .before .before .if3 .left, w .0, w .1), omega (arith, i .2, w .1), r .1, r .2, i .5, r .0, i .7, i .8)
+loop-again-2 c =
+    let put = c .before .before .put-reply2 .ensures in
+    let ran = c .before .before .before .before .before .before .before .before .before .before .run .ensures in
+    let test = c .before .before .before .before .before .before .before .before .before .before .before .before .before .before .before .before in
+    let more = test .before .before .before .before .before .before in
+    let i = more .before .loop .inv in (
+      omega (arith, test .before .if2 .left, more .loop-test .taken),
+      omega (arith, i .1, i .2, test .if3 .left, put .0, put .1),
+      omega (arith, i .2, put .1),
+      ran .1,
+      ran .2,
+      i .5,
+      ran .0,
+      i .7,
+      i .8,
+    )
 
 answer-requires-4 : tie.Need-answer-requires-4 Inv-loop μ-loop
 answer-requires-4 c κs = search needs

@@ -1,10 +1,10 @@
--- `replay::ends_line` meets its contract. Assumes nothing.
+-- `hex::ends_line` meets its contract. Assumes nothing.
 use Prim.Native.Nat.{_+_}
 use borrow.Author.Tests.{eq-eqb, ne-eqb}
-use Rattle.replay.specs.Hex.{endsLine}
+use Rattle.hex.specs.Hex.{endsLine}
 use borrow.Author.Needs.{needs}
-use Rattle.replay.proofs.ends_line.Statement.{statement}
-use Rattle.replay.proofs.ends_line.Tie as tie
+use Rattle.hex.proofs.ends_line.Statement.{statement}
+use Rattle.hex.proofs.ends_line.Tie as tie
 
 add-if1 : tie.Need-add-if1
 add-if1 c = search needs

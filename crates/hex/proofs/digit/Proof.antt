@@ -1,8 +1,8 @@
--- `replay::digit` meets its contract. Assumes nothing.
+-- `hex::digit` meets its contract. Assumes nothing.
 use borrow.Author.Tests.{lt-ltb, le-ltb}
 use borrow.Author.Needs.{needs}
-use Rattle.replay.proofs.digit.Statement.{statement}
-use Rattle.replay.proofs.digit.Tie as tie
+use Rattle.hex.proofs.digit.Statement.{statement}
+use Rattle.hex.proofs.digit.Tie as tie
 
 add-result : tie.Need-add-result
 add-result c = search needs

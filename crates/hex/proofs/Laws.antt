@@ -7,7 +7,7 @@ use native.Mathlib.Numerals.{add-one}
 use native.Mathlib.Omega.{arith}
 use lib.ListN.{length, take, drop, getD, set, length-set}
 use lib.Seq.{drop-cons, drop-length, take-suc-set}
-use Rattle.replay.specs.Hex.{digitOf, endsLine, octetText, textFrom, textOf}
+use Rattle.hex.specs.Hex.{digitOf, endsLine, octetText, textFrom, textOf}
 
 pub push : (t : List ℕ) (i a : ℕ) → i < length t → take (i + 1) (set t i a) ≡ take i t ++ (a ∷ [])
 push t i a h = rw (add-one, take-suc-set t i a)

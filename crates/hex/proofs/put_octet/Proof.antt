@@ -1,10 +1,10 @@
--- `replay::put_octet` meets its contract. Assumes nothing.
+-- `hex::put_octet` meets its contract. Assumes nothing.
 use native.Mathlib.Omega.{arith}
 use lib.ListN.{length-set}
-use Rattle.replay.proofs.Laws.{line-ends, line-goes-on}
+use Rattle.hex.proofs.Laws.{line-ends, line-goes-on}
 use borrow.Author.Needs.{needs}
-use Rattle.replay.proofs.put_octet.Statement.{statement}
-use Rattle.replay.proofs.put_octet.Tie as tie
+use Rattle.hex.proofs.put_octet.Statement.{statement}
+use Rattle.hex.proofs.put_octet.Tie as tie
 
 digit-requires : tie.Need-digit-requires
 digit-requires c κs = search needs

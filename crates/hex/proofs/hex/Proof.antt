@@ -1,15 +1,15 @@
--- `replay::hex` meets its contract. The invariant: what is written, with the text of the octets to come, is the whole text.
+-- `hex::hex` meets its contract. The invariant: what is written, with the text of the octets to come, is the whole text.
 -- Assumes nothing.
 use mathlib.Core.Path.{_≡_, refl, ap, _∙_}
 use mathlib.Core.List.{_++_}
 use Prim.Native.Nat.{_≤_, _*_, _-_}
 use native.Mathlib.Omega.{arith}
 use lib.ListN.{length, take, getD}
-use Rattle.replay.specs.Hex.{octetText}
-use Rattle.replay.proofs.Laws.{SoFar, so-far-none, so-far-more, so-far-all}
+use Rattle.hex.specs.Hex.{octetText}
+use Rattle.hex.proofs.Laws.{SoFar, so-far-none, so-far-more, so-far-all}
 use borrow.Author.Needs.{needs}
-use Rattle.replay.proofs.hex.Statement.{statement}
-use Rattle.replay.proofs.hex.Tie as tie
+use Rattle.hex.proofs.hex.Statement.{statement}
+use Rattle.hex.proofs.hex.Tie as tie
 
 abbrev Inv-loop : tie.InvT-loop
 Inv-loop octets text₀ to₀ i₀ text to i = (i ≤ length octets) × (to ≤ 3 * i) × (length text ≡ length text₀) × SoFar octets i (take to text)

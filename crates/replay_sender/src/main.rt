@@ -1,0 +1,29 @@
+// Runs the sender script on standard input on memory of zeros, and prints the answers in hex, 32 octets to a line.
+use libc::STDIN_FILENO;
+use libc::STDOUT_FILENO;
+ghost use Prim.Native.Nat.{_*_, _≤_};
+ghost use lib.ListN.{length};
+
+// Runs the script on memory of zeros, with `answers` as room for the answers; how long their text is.
+fn replay(script: &[u8], answers: &mut [u8], text: &mut [u8]) -> usize
+    requires { ⌜ 3 * length (now answers) ≤ length (now text) ⌝ }
+    ensures { λ r. ⌜ r ≤ length (now (text .exit)) ⌝ }
+{
+    let mut octets = [0u8; 32672];
+    let mut words = [0u64; 3460];
+    let count = script_sender::sender_run(script, answers, &mut octets, &mut words);
+    hex::hex(&answers[0..count], text)
+}
+
+fn main() {
+    let mut input = [0u8; 32769];
+    let n = io::read_full(STDIN_FILENO, &mut input);
+    if 32768 < n {
+        io::write_all(STDOUT_FILENO, b"too long\n");
+        return;
+    }
+    let mut answers = [0u8; 32768];
+    let mut text = [0u8; 98304];
+    let end = replay(&input[..n], &mut answers, &mut text);
+    io::write_all(STDOUT_FILENO, &text[0..end]);
+}

@@ -1,0 +1,73 @@
+-- `cycles::time_sender_enqueue` meets its contract. Assumes nothing.
+use mathlib.Core.Path.{_≡_}
+use Prim.Native.Nat.{_≤_, _-_}
+use lib.ListN.{length}
+use Rattle.sender.specs.Arrays.{Whole}
+use borrow.Author.Needs.{needs}
+use Rattle.sender_timing.proofs.cycles.time_sender_enqueue.Statement.{statement}
+use Rattle.sender_timing.proofs.cycles.time_sender_enqueue.Tie as tie
+
+abbrev Inv-loop : tie.InvT-loop
+Inv-loop live rounds store₀ words s₀ ms₀ all₀ round₀ store s ms all round = (round ≤ rounds) × Whole s × (length store ≡ length store₀)
+
+abbrev μ-loop : tie.MeasureT-loop
+μ-loop live rounds store₀ words s₀ ms₀ all₀ round₀ store s ms all round = rounds - round
+
+fits-requires : tie.Need-fits-requires Inv-loop μ-loop
+fits-requires c κs = search needs
+
+returns : tie.Need-returns Inv-loop μ-loop
+returns c = search needs
+
+filled-requires : tie.Need-filled-requires Inv-loop μ-loop
+filled-requires c κs = search needs
+
+loop-holds : tie.Need-loop-holds Inv-loop μ-loop
+loop-holds c = search needs
+
+add-round : tie.Need-add-round Inv-loop μ-loop
+add-round c = search needs
+
+replace-requires : tie.Need-replace-requires Inv-loop μ-loop
+replace-requires c κs = search needs
+
+wrapping-add-u64-requires : tie.Need-wrapping-add-u64-requires Inv-loop μ-loop
+wrapping-add-u64-requires c κs = search needs
+
+wrapping-add-u64-requires-2 : tie.Need-wrapping-add-u64-requires-2 Inv-loop μ-loop
+wrapping-add-u64-requires-2 c κs = search needs
+
+loop-less : tie.Need-loop-less Inv-loop μ-loop
+loop-less c = search needs
+
+loop-again : tie.Need-loop-again Inv-loop μ-loop
+loop-again c = search needs
+
+same-length : tie.Need-same-length Inv-loop μ-loop
+same-length c = search needs
+
+same-length-2 : tie.Need-same-length-2 Inv-loop μ-loop
+same-length-2 c = search needs
+
+returns-2 : tie.Need-returns-2 Inv-loop μ-loop
+returns-2 c = search needs
+
+pub time-sender-enqueue-spec : {M : Type 1} → statement M
+time-sender-enqueue-spec =
+    tie.close
+    (tie.spec
+    Inv-loop
+    μ-loop
+    fits-requires
+    returns
+    filled-requires
+    loop-holds
+    add-round
+    replace-requires
+    wrapping-add-u64-requires
+    wrapping-add-u64-requires-2
+    loop-less
+    loop-again
+    same-length
+    same-length-2
+    returns-2)

@@ -1,0 +1,67 @@
+-- `cycles::time_sender_status` meets its contract. Assumes nothing.
+use Prim.Native.Nat.{_≤_, _-_}
+use Rattle.sender.specs.Arrays.{Whole}
+use borrow.Author.Needs.{needs}
+use Rattle.sender_timing.proofs.cycles.time_sender_status.Statement.{statement}
+use Rattle.sender_timing.proofs.cycles.time_sender_status.Tie as tie
+
+abbrev Inv-loop : tie.InvT-loop
+Inv-loop live rounds store words begun s₀ all₀ round₀ s all round = (round ≤ rounds) × Whole s
+
+abbrev μ-loop : tie.MeasureT-loop
+μ-loop live rounds store words begun s₀ all₀ round₀ s all round = rounds - round
+
+fits-requires : tie.Need-fits-requires Inv-loop μ-loop
+fits-requires c κs = search needs
+
+returns : tie.Need-returns Inv-loop μ-loop
+returns c = search needs
+
+begin-requires : tie.Need-begin-requires Inv-loop μ-loop
+begin-requires c κs = search needs
+
+loop-holds : tie.Need-loop-holds Inv-loop μ-loop
+loop-holds c = search needs
+
+add-round : tie.Need-add-round Inv-loop μ-loop
+add-round c = search needs
+
+show-requires : tie.Need-show-requires Inv-loop μ-loop
+show-requires c κs = search needs
+
+wrapping-add-u64-requires : tie.Need-wrapping-add-u64-requires Inv-loop μ-loop
+wrapping-add-u64-requires c κs = search needs
+
+loop-less : tie.Need-loop-less Inv-loop μ-loop
+loop-less c = search needs
+
+loop-again : tie.Need-loop-again Inv-loop μ-loop
+loop-again c = search needs
+
+same-length : tie.Need-same-length Inv-loop μ-loop
+same-length c = search needs
+
+same-length-2 : tie.Need-same-length-2 Inv-loop μ-loop
+same-length-2 c = search needs
+
+returns-2 : tie.Need-returns-2 Inv-loop μ-loop
+returns-2 c = search needs
+
+pub time-sender-status-spec : {M : Type 1} → statement M
+time-sender-status-spec =
+    tie.close
+    (tie.spec
+    Inv-loop
+    μ-loop
+    fits-requires
+    returns
+    begin-requires
+    loop-holds
+    add-round
+    show-requires
+    wrapping-add-u64-requires
+    loop-less
+    loop-again
+    same-length
+    same-length-2
+    returns-2)

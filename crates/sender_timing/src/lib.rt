@@ -1,0 +1,144 @@
+// Loops of the sender's calls, for timing. Each begins with `live` transfers of 255 octets at block 0, and is 0 at once if the
+// lent memory is too small for a sender, or `live` is not 1 to 128.
+pub mod cycles;
+pub mod queries;
+
+use rach::MobileIdentity;
+use sender::Enqueued;
+use sender::Sender;
+use sender::Verdict;
+use spach::Channel;
+use transfer::Request;
+ghost use Prim.Native.Nat.{_≤_};
+ghost use Rattle.sender.specs.Arrays.{Whole};
+
+// Memory for a sender, and 1 to 128 transfers.
+pub fn fits(live: u64, octets: usize, words: usize) -> bool {
+    if octets < 32640 {
+        return false;
+    }
+    if words < 3456 {
+        return false;
+    }
+    if live == 0 {
+        return false;
+    }
+    live <= 128
+}
+
+// 1 for a call that is not refused.
+pub fn accepted(verdict: Verdict) -> u64
+    ensures { λ r. ⌜ r ≤ 1 ⌝ }
+{
+    match verdict {
+        Verdict::Accepted => 1,
+        Verdict::Refused(error) => 0,
+    }
+}
+
+// The message for the identity `number`.
+pub fn ask(
+    s: Sender,
+    number: u64,
+    deadline_ms: u64,
+    now_ms: u64,
+    store: &mut [u8],
+    words: &[u64],
+) -> Enqueued
+    requires { ⌜ Whole s ⌝ }
+    ensures { λ r. ⌜ Whole (r .sender) ⌝ }
+{
+    let message = [7u8; 255];
+    let request = Request {
+        identity: MobileIdentity::Min34(number),
+        channel: Channel::Arch,
+        completion: number,
+        deadline_ms: deadline_ms,
+    };
+    s.enqueue(request, &message, 0, now_ms, store, words)
+}
+
+// A sender with transfers for the identities after `first`, up to `last`.
+pub fn filled(first: u64, last: u64, store: &mut [u8], words: &[u64]) -> Sender
+    ensures { λ r. ⌜ Whole r ⌝ }
+{
+    let made = Sender::try_new(128, 0, 0, 1);
+    let mut s = made.sender;
+    let mut i = first;
+    while i < last {
+        i += 1;
+        let asked = ask(s, i, 1000000000, 0, store, words);
+        s = asked.sender;
+    }
+    s
+}
+
+#[no_mangle]
+pub extern "C" fn time_sender_advance(
+    live: u64,
+    rounds: u64,
+    store: &mut [u8],
+    words: &mut [u64],
+) -> u64 {
+    if !fits(live, store.len(), words.len()) {
+        return 0;
+    }
+    let mut s = filled(0, live, store, words);
+    let mut all: u64 = 0;
+    let mut round: u64 = 0;
+    while round < rounds {
+        round += 1;
+        let moved = s.advance(0, 0, store, words);
+        let verdict = moved.verdict;
+        s = moved.sender;
+        all = std::num::wrapping_add_u64(all, accepted(verdict));
+    }
+    all
+}
+
+// The frame that was prepared first, again and again.
+#[no_mangle]
+pub extern "C" fn time_sender_prepare(
+    live: u64,
+    rounds: u64,
+    store: &mut [u8],
+    words: &mut [u64],
+) -> u64 {
+    if !fits(live, store.len(), words.len()) {
+        return 0;
+    }
+    let mut s = filled(0, live, store, words);
+    let mut all: u64 = 0;
+    let mut round: u64 = 0;
+    while round < rounds {
+        round += 1;
+        let prepared = s.prepare(0, 0, store, words);
+        let verdict = prepared.verdict;
+        s = prepared.sender;
+        all = std::num::wrapping_add_u64(all, accepted(verdict));
+    }
+    all
+}
+
+#[no_mangle]
+pub extern "C" fn time_sender_refresh(
+    live: u64,
+    rounds: u64,
+    store: &mut [u8],
+    words: &mut [u64],
+) -> u64 {
+    if !fits(live, store.len(), words.len()) {
+        return 0;
+    }
+    let mut s = filled(0, live, store, words);
+    let mut all: u64 = 0;
+    let mut round: u64 = 0;
+    while round < rounds {
+        round += 1;
+        let moved = s.refresh_waiting(0, 0, store, words);
+        let verdict = moved.verdict;
+        s = moved.sender;
+        all = std::num::wrapping_add_u64(all, accepted(verdict));
+    }
+    all
+}
