@@ -6,7 +6,6 @@ use receiver::ArqStatus;
 use sender::FoundAnswer;
 use sender::Sender;
 use transfer::NextEvent;
-ghost use Prim.Native.Nat.{_≤_};
 ghost use Rattle.sender.specs.Arrays.{Whole};
 
 // What a cycle leaves, and 1 if it did something.

@@ -9,7 +9,6 @@ use sender::Sender;
 use sender::Verdict;
 use spach::Channel;
 use transfer::Request;
-ghost use Prim.Native.Nat.{_≤_};
 ghost use Rattle.sender.specs.Arrays.{Whole};
 
 // Memory for a sender, and 1 to 128 transfers.
@@ -27,9 +26,7 @@ pub fn fits(live: u64, octets: usize, words: usize) -> bool {
 }
 
 // 1 for a call that is not refused.
-pub fn accepted(verdict: Verdict) -> u64
-    ensures { λ r. ⌜ r ≤ 1 ⌝ }
-{
+pub fn accepted(verdict: Verdict) -> u64 {
     match verdict {
         Verdict::Accepted => 1,
         Verdict::Refused(error) => 0,

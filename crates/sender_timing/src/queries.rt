@@ -4,7 +4,6 @@ use super::filled;
 use super::fits;
 use rach::MobileIdentity;
 use sender::Sender;
-ghost use Prim.Native.Nat.{_≤_};
 ghost use Rattle.sender.specs.Arrays.{Whole};
 
 // An identity that no transfer has, another in each round.

@@ -15,6 +15,7 @@ pub mod Kept
 pub mod Listed
 pub mod Lives
 pub mod Once
+pub mod Remarks
 pub mod Samples
 pub mod Settled
 pub mod Stored
