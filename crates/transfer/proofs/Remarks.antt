@@ -112,9 +112,10 @@ selected-submits v m t h e =
 -- `submitted` refuses 24 exactly if the token is not the selected frame's
 pub submitted-stale : (v : View) (m : Lent) (t : FrameToken) → Sound v → (submittedAt v m t .outcome ≡ refuses 24) ↔ (isSelected t (v .selected) ≡ false)
 unfolding submittedAt
-submitted-stale v m t h =
-    ((λ q. ⊎-elim (λ e. absurd (clash (sym (selected-submits v m t h e) ∙ q))) (λ e. e) (by-bool (isSelected t (v .selected)))),
-    (λ e. ap (λ (o : Out Unit). o .outcome) (pick-false (seek (ofGeneration (t .generation)) (v .transfers) (refusal 24 v m) found) (refusal 24 v m) e)))
+submitted-stale v m t h = (
+  (λ q. ⊎-elim (λ e. absurd (clash (sym (selected-submits v m t h e) ∙ q))) (λ e. e) (by-bool (isSelected t (v .selected)))),
+  (λ e. ap (λ (o : Out Unit). o .outcome) (pick-false (seek (ofGeneration (t .generation)) (v .transfers) (refusal 24 v m) found) (refusal 24 v m) e)),
+)
   where
     clash : _≡_ {A = Outcome Unit} (gives tt) (refuses 24) → ⊥
     clash e = let z : _≡_ {A = ℕ} 0 1 = cc in omega arith
@@ -301,9 +302,10 @@ pub step-fails-exactly : (u : View) (x : Transfer) (asked : Bool) → length (u 
     → (step u (asked, x) .events ≡ pushBack (u .events) (Failed (x .parcel .completion) EchoExhausted)) ↔ ((fateOf (u .clock) asked x ≡ Restarts) × ((k : ℕ) → k < 128 → u .clock .«last_ms» < getD (u .echoes .«echo_until_ms») k 0))
 unfolding step
 step-fails-exactly u x asked long low =
-    let exact = restart-fails-exactly u x long low in
-    ((λ q. let f = fails-restarts u asked x q in (f, exact .0 (sym (ap (λ (z : Fate). landed u x z .events) f) ∙ q))),
-    (λ k. ap (λ (z : Fate). landed u x z .events) (k .0) ∙ exact .1 (k .1)))
+    let exact = restart-fails-exactly u x long low in (
+      (λ q. let f = fails-restarts u asked x q in (f, exact .0 (sym (ap (λ (z : Fate). landed u x z .events) f) ∙ q))),
+      (λ k. ap (λ (z : Fate). landed u x z .events) (k .0) ∙ exact .1 (k .1)),
+    )
 
 -- so at any transfer of `advance`'s walk, where those before it have left the sender
 pub failed-exactly : (v : View) (before rest : List Transfer) (x : Transfer) (asked : Bool) → Sound v → v .transfers ≡ before ++ x ∷ rest →
