@@ -521,12 +521,6 @@ unfolding Each
 each-sound l f v [] h e = tt
 each-sound l f v (c ∷ calls) h e = (f v c h e, each-sound l f (after v c) calls (sound v c h) (careful v c h .limits ∙ e))
 
--- what a fact of each call implies
-each-map : {P Q : View → Told → Type 0} → ((u : View) (c : Told) → P u c → Q u c) → (v : View) (calls : List Told) → Each P v calls → Each Q v calls
-unfolding Each
-each-map f v [] h = tt
-each-map f v (c ∷ calls) h = (f v c (h .0), each-map f (after v c) calls (h .1))
-
 -- what two imply
 each-both : {P Q R : View → Told → Type 0} → ((u : View) (c : Told) → P u c → Q u c → R u c) → (v : View) (calls : List Told) → Each P v calls → Each Q v calls → Each R v calls
 unfolding Each
@@ -561,7 +555,7 @@ taken-twice v calls between c d echo deadline later f t s =
 -- the second sender takes no echo that the first still holds
 pub two-senders : TwoSenders
 two-senders v w first second f g h =
-    each-both (λ u c n p echo deadline t. each-map (λ a b q. q echo) v first (p (n echo deadline t))) w second (none-before w second g) h
+    each-both (λ u c n p echo deadline t. p (n echo deadline t) echo) w second (none-before w second g) h
 
 -- pairs of elements that are such
 pairs-with : {A : Type 0} {P : A → Type 0} {R S : A → A → Type 0} → ((x y : A) → P x → P y → R x y → S x y) → {l : List A} → All P l → Pairs R l → Pairs S l

@@ -157,17 +157,18 @@ abbrev pub TakenApart : Type 0
 TakenApart = (v : View) (calls : List Told) → Fresh v →
     Each (λ u c. Pairs (λ x y. u .«next_token» ≤ x .generation .0 → u .«next_token» ≤ y .generation .0 → x .echo ≢ y .echo) (after u c .transfers)) v calls
 
--- a time is at or after every deadline plus guard of the echoes that a sender takes over its calls
-abbrev pub Past : View → List Told → (time : ℕ) → Type 0
-Past v calls time = Each (λ u c. (echo deadline : ℕ) → Takes u c echo deadline → heldUntil (v .limits) deadline ≤ time) v calls
-
--- the same of one echo alone
+-- a time is at or after deadline plus guard of each taking of this echo that a sender makes over its calls
 abbrev pub PastOf : (echo : ℕ) → View → List Told → (time : ℕ) → Type 0
 PastOf echo v calls time = Each (λ u c. (deadline : ℕ) → Takes u c echo deadline → heldUntil (v .limits) deadline ≤ time) v calls
 
--- two senders, told the time by one clock, the second perhaps in the first one's place after a power failure: if each time at which the second may
--- take an echo, its first usable block having come, is past every deadline plus guard of the first, then the second takes no echo
--- that the first still holds
+-- the same of every echo
+abbrev pub Past : View → List Told → (time : ℕ) → Type 0
+Past v calls time = (echo : ℕ) → PastOf echo v calls time
+
+-- two senders, told the time by one clock, the second perhaps in the first one's place after a power failure: if each time at
+-- which the second may take an echo, its first usable block having come, is past every deadline plus guard of the first, then
+-- the second takes no echo that the first still holds. (Calls that tell no time are asked too, at the clock as it stands; a first
+-- usable block above 0 makes that no demand before the clock has moved)
 abbrev pub TwoSenders : Type 0
 TwoSenders = (v w : View) (first second : List Told) → Fresh v → Fresh w →
     Each (λ u c. w .limits .«startup_until_block» ≤ after u c .clock .«last_block» → Past v first (after u c .clock .«last_ms»)) w second →
