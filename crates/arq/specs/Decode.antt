@@ -74,6 +74,7 @@ decodeKind h bs =
 abbrev pub decodeUsage : HeaderA → List Bool → Outcome ArqFrame
 decodeUsage h bs = refuse (eqb (usageOf (h .channel)) 7) 3 (decodeKind h bs)
 
+-- the refusals in 01's order: not 14 octets 1; padding 15; header A; then as above
 unfoldable pub decodeOf : List ℕ → Outcome ArqFrame
 decodeOf xs =
     let bs = bitsOf xs in

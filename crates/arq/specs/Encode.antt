@@ -36,6 +36,7 @@ abbrev pub byKind : {A : Type 0} → FrameKind → A → A → A
 byKind Begin a b = a
 byKind Continue a b = b
 
+-- 3 and 11; then of a Begin 2, 13, 7, of a Continue 12; else the frame as it is laid out
 unfoldable pub encodeOf : ArqFrame → Outcome PackedFrame
 encodeOf f =
     headerChecked (f .header)

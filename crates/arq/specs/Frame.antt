@@ -49,6 +49,7 @@ room i = 75 - widthOf (typeOf i)
 abbrev pub beginData : ArqFrame → List Bool
 beginData f = take (f .«begin_bits») (bitsOf (f .«begin_data»))
 
+-- a Continue's
 abbrev pub continueData : ArqFrame → List Bool
 continueData f = take 79 (bitsOf (f .«continue_data»))
 
@@ -56,9 +57,11 @@ continueData f = take 79 (bitsOf (f .«continue_data»))
 unfoldable pub packed : List Bool → PackedFrame
 packed bs = record { octets = octets 14 (upTo 112 bs) }
 
+-- a Begin in its 14 octets: the fields up to its data, then the data bits that are read
 unfoldable pub beginFrame : ArqFrame → PackedFrame
 beginFrame f = packed (layout (begin (f .header) (f .identity) (f .«message_octets»)) ++ beginData f)
 
+-- a Continue in its 14 octets
 unfoldable pub continueFrame : ArqFrame → PackedFrame
 continueFrame f = packed (layout (continue (f .header) (f .«identity_type») (f .«frame_number»)) ++ continueData f)
 
@@ -76,6 +79,7 @@ aBeginOf h i n bits octs = record {
   «continue_data» = replicate 10 0;
 }
 
+-- a Continue
 abbrev pub aContinueOf : ArqHeader → ℕ → ℕ → List ℕ → ArqFrame
 aContinueOf h t k octs = record {
   kind = Continue;
@@ -93,6 +97,7 @@ aContinueOf h t k octs = record {
 abbrev pub aBegin : ArqHeader → MobileIdentity → ℕ → ℕ → List Bool → ArqFrame
 aBegin h i n bits data-bits = aBeginOf h i n bits (octets 7 (upTo 56 data-bits))
 
+-- a Continue's 79 data bits, in 10
 abbrev pub aContinue : ArqHeader → ℕ → ℕ → List Bool → ArqFrame
 aContinue h t k data-bits = aContinueOf h t k (octets 10 (upTo 80 data-bits))
 
@@ -100,6 +105,7 @@ aContinue h t k data-bits = aContinueOf h t k (octets 10 (upTo 80 data-bits))
 abbrev pub blankPacked : PackedFrame
 blankPacked = record { octets = replicate 14 0 }
 
+-- its header: all fields zero, which is Arch and Contention
 abbrev pub blankHeader : ArqHeader
 blankHeader = record {
   channel = Arch;
@@ -109,6 +115,7 @@ blankHeader = record {
   «response_mode» = Contention;
 }
 
+-- the blank frame: a Begin for Tmsi20 of 0 with nothing in it
 abbrev pub blankFrame : ArqFrame
 blankFrame = aBeginOf blankHeader (Tmsi20 0) 0 0 (replicate 7 0)
 

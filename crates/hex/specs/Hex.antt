@@ -5,6 +5,7 @@ use Prim.Native.Nat.{ℕ, _+_, _/_, _%_}
 use lib.Dec.{eqb, ltb}
 use lib.ListN.{length}
 
+-- a digit 0 to 15 as ASCII: 0 to 9, then a to f
 abbrev pub digitOf : ℕ → ℕ
 digitOf d = cond (ltb d 10) (48 + d) (87 + d)
 
@@ -21,5 +22,6 @@ unfoldable pub textFrom : ℕ → ℕ → List ℕ → List ℕ
 textFrom n i [] = []
 textFrom n i (x ∷ xs) = octetText x (endsLine n i) ++ textFrom n (i + 1) xs
 
+-- all octets
 unfoldable pub textOf : List ℕ → List ℕ
 textOf xs = textFrom (length xs) 0 xs

@@ -82,12 +82,15 @@ turn a s = record { action = a; timer = s }
 abbrev pub acts : Turn → After InactivityAction ArqInactivity
 acts t = record { outcome = gives (t .action); state = t .timer }
 
+-- `reset`: 18 alone; idle under a new token
 unfoldable pub resetOf : ArqInactivity → After Unit ArqInactivity
 resetOf s = onward s (enough s) (λ t. done (renewed t))
 
+-- `observe`: 17 alone; the clock moves
 unfoldable pub observeOf : ArqInactivity → ℕ → After Unit ArqInactivity
 observeOf s b = onward s (ticked s b) done
 
+-- `received_frame`: 17 alone; it waits from this block on
 unfoldable pub receivedFrameOf : ArqInactivity → ℕ → After Unit ArqInactivity
 receivedFrameOf s b = onward s (ticked s b) (λ t. done (waiting t))
 
@@ -102,9 +105,11 @@ due (Waiting since) s = cond (not (s .«unsolicited_pending») && elapsed s sinc
 due SendingUnsolicited s = turn None s
 due (FinalWait since) s = cond (elapsed s since) (turn Terminate (renewed s)) (turn None s)
 
+-- what is due in the state that the timer is in
 abbrev pub dueOf : ArqInactivity → Turn
 dueOf s = due (s .state) s
 
+-- `advance`: 18, 17; then what is due
 unfoldable pub advanceOf : ArqInactivity → ℕ → After InactivityAction ArqInactivity
 advanceOf s b = onward s (admitted s b) (λ t. acts (dueOf t))
 
@@ -124,6 +129,7 @@ unsolicitedBy Failed s = turn Terminate (renewed s)
 abbrev pub unsolicitedAt : StatusResult → ArqInactivity → Turn
 unsolicitedAt r s = cond (s .«unsolicited_pending») (unsolicitedBy r s) (turn None s)
 
+-- no transaction is watched
 abbrev pub isIdle : State → Bool
 isIdle Idle = true
 isIdle (Waiting since) = false
@@ -143,9 +149,11 @@ solicitedAt r s = cond (isIdle (s .state)) (turn None s) (solicitedBy r s)
 abbrev pub reported : ArqInactivity → TransactionToken → ℕ → (ArqInactivity → Turn) → After InactivityAction ArqInactivity
 reported s t b f = cond (ownsOf s t) (onward s (admitted s b) (λ u. acts (f u))) (acts (turn None s))
 
+-- `unsolicited_status_result`: None for a foreign token; 18, 17
 unfoldable pub unsolicitedOf : ArqInactivity → TransactionToken → ℕ → StatusResult → After InactivityAction ArqInactivity
 unsolicitedOf s t b r = reported s t b (unsolicitedAt r)
 
+-- `solicited_status_result`: the same
 unfoldable pub solicitedOf : ArqInactivity → TransactionToken → ℕ → StatusResult → After InactivityAction ArqInactivity
 solicitedOf s t b r = reported s t b (solicitedAt r)
 
@@ -155,6 +163,7 @@ resultAt solicited r s = cond solicited (solicitedAt r s) (unsolicitedAt r s)
 
 -- ---- answers by 01's numbers
 
+-- ClockBackwards 17
 abbrev pub clockNumber : InactivityError → ℕ
 clockNumber ClockBackwards = 17
 
@@ -163,14 +172,17 @@ abbrev pub refusalOf : ProcedureError → ℕ
 refusalOf (Wire e) = numberOf e
 refusalOf (Clock e) = clockNumber e
 
+-- the answer of a call that moves the clock alone
 abbrev pub clockAnswer : ClockAnswer → Outcome Unit
 clockAnswer clocks.Moved = gives tt
 clockAnswer (clocks.Refused e) = refuses (clockNumber e)
 
+-- the answer of a call that gives an action
 abbrev pub actionAnswer : ActionAnswer → Outcome InactivityAction
 actionAnswer (actions.Action a) = gives a
 actionAnswer (actions.Refused e) = refuses (refusalOf e)
 
+-- whether a call is let through
 abbrev pub admission : Admission → Outcome ArqInactivity
 admission (admissions.Admitted t) = gives t
 admission (admissions.Refused e) = refuses (refusalOf e)
@@ -179,9 +191,11 @@ admission (admissions.Refused e) = refuses (refusalOf e)
 abbrev pub observed : Observed → After Unit ArqInactivity
 observed r = record { outcome = clockAnswer (r .answer); state = r .timer }
 
+-- the same of `reset`
 abbrev pub hasReset : Reset → After Unit ArqInactivity
 hasReset r = record { outcome = verdictOf (r .verdict); state = r .timer }
 
+-- the same of a call that gives an action
 abbrev pub acted : Acted → After InactivityAction ArqInactivity
 acted r = record { outcome = actionAnswer (r .answer); state = r .timer }
 

@@ -1,1 +1,2 @@
+-- 01, module 5. Believe `elapsed` (32 blocks), `due`, and the order of refusals in `admitted` and `reported`.
 pub mod Inactivity

@@ -8,22 +8,13 @@ use native.Mathlib.Omega.{arith}
 use native.Mathlib.Nat.{pow-suc, one-le-pow, pow-le-pow-right, div-lt-iff-lt-mul, le-div-iff-mul-le}
 use lib.ListN.{length, take, drop, getD, set, length-append}
 use lib.Dec.{ltb}
-use lib.Seq.{sets, sets-eq, length-sets, length-take-le, take-suc, take-length, drop-cons, drop-length}
+use lib.Seq.{sets, length-take-le, take-suc, take-length, drop-cons, drop-length}
 use borrow.Author.Tests.{lt-ltb, le-ltb, ltb-true, ltb-false}
 use Rattle.io.specs.Digits.{digits, glyph, Fewest}
 use Rattle.receiver.proofs.Ways.{by-bool}
 use Rattle.listing.specs.Text.{written, Wrote, decimalIn, decimalOf, hexOf}
 
 -- ---- written
-
--- what stands there afterwards
-pub written-is : (t : List ℕ) (i : ℕ) (x : List ℕ) → i + length x ≤ length t → written t i x ≡ take i t ++ x ++ drop (i + length x) t
-unfolding written
-written-is t i x h = sets-eq x t i h
-
-pub length-written : (t : List ℕ) (i : ℕ) (x : List ℕ) → length (written t i x) ≡ length t
-unfolding written
-length-written t i x = length-sets t i x
 
 sets-append : (t : List ℕ) (i : ℕ) (x y : List ℕ) → sets t i (x ++ y) ≡ sets (sets t i x) (i + length x) y
 sets-append t i [] y = ap (λ j. sets t j y) (omega arith)

@@ -1,3 +1,5 @@
+-- 01, "Program `arq-show`". Text: numbers and octets as ASCII; Line: the words and the lines; Session: the whole listing of an
+-- input (`listingOf`). Believe Line's words and `lineOf`, and `listingFrom`.
 pub mod Text
 pub mod Line
 pub mod Session

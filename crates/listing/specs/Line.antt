@@ -15,9 +15,11 @@ use Rattle.listing.specs.Text.{decimalOf, hexOf}
 
 -- ---- signs and words
 
+-- fields are divided by single spaces
 abbrev pub space : List ℕ
 space = 32 ∷ []
 
+-- each line ends so
 abbrev pub newline : List ℕ
 newline = 10 ∷ []
 

@@ -41,6 +41,7 @@ counted (Message m) = 1
 abbrev pub outOf : Session → Push → Out
 outOf x p = pushOf (x .receiver) (p .octets) (p .buffer)
 
+-- the session after one push
 abbrev pub stepOf : Session → Push → Session
 stepOf x p = record {
   receiver = outOf x p .receiver;
@@ -92,5 +93,6 @@ listingFrom (gives s) xs =
     let l = pushesOf (length xs / 14) xs in
     headerLine ++ linesOf (startOf s) l ++ lastLines (afterOf (startOf s) l) (length xs % 14)
 
+-- the whole listing: nine octets of identity, then the frames
 unfoldable pub listingOf : List ℕ → List ℕ
 listingOf xs = listingFrom (openOf (take 9 xs)) (drop 9 xs)

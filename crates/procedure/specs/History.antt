@@ -82,6 +82,7 @@ OfUnsolicited (advance b) = ⊥
 OfUnsolicited (statusSent b x r) = x .kind ≡ Unsolicited
 OfUnsolicited reset = ⊥
 
+-- a result of an unsolicited status with this token is accepted
 abbrev pub AcceptsUnsolicited : TransactionToken → ArqProcedure → Call → Type 0
 AcceptsUnsolicited k p c = OfUnsolicited c × AcceptsResult k p c
 

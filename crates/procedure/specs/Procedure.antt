@@ -154,6 +154,7 @@ abbrev pub thenHears : ArqProcedure → List ℕ → List ℕ → Outcome ArqIna
 thenHears p xs b (gives t) = decoded (withTimer p t) b (decodeOf xs)
 thenHears p xs b (refuses n) = refusal n p b
 
+-- `receive`: 18, 16, 17, push's; an accepted clock stays moved
 unfoldable pub receiveOf : ArqProcedure → ℕ → List ℕ → List ℕ → Out
 receiveOf p block xs b = thenHears p xs b (letThrough (p .inactivity) block (length b))
 
@@ -179,6 +180,7 @@ follows actions.Terminate p = says Terminated (ended p)
 abbrev pub dueAt : ArqProcedure → After TimerEvent ArqProcedure
 dueAt p = let d = dueOf (p .inactivity) in cond (completeOf (p .receiver)) (says None p) (follows (d .action) (withTimer p (d .timer)))
 
+-- `advance`: 18, 17; then what is due
 unfoldable pub advanceOf : ArqProcedure → ℕ → After TimerEvent ArqProcedure
 advanceOf p b = onward p (admits p b) dueAt
 
@@ -200,33 +202,42 @@ statusSentOf p b x r = cond (ownsOf (p .inactivity) (x .token)) (onward p (admit
 
 -- ---- answers by 01's numbers
 
+-- the answer of the constructor: the outcome, and the procedure or, beside a refusal, the blank one
 abbrev pub madeAnswer : Made → Outcome Unit × ArqProcedure
 madeAnswer r = (verdictOf (r .verdict), r .procedure)
 
+-- `reset`'s answer and procedure
 abbrev pub hasReset : Reset → After Unit ArqProcedure
 hasReset r = record { outcome = verdictOf (r .verdict); state = r .procedure }
 
+-- the answer of `receive` by number
 abbrev pub receiveAnswer : ReceiveAnswer → Outcome ReceiveEvent
 receiveAnswer (receiveAnswers.Event e) = gives e
 receiveAnswer (receiveAnswers.Refused e) = refuses (refusalOf e)
 
+-- its answer and procedure
 abbrev pub told : Received → After ReceiveEvent ArqProcedure
 told r = record { outcome = receiveAnswer (r .answer); state = r .procedure }
 
+-- its answer, procedure and buffer
 abbrev pub received : Received → List ℕ → Out
 received r b = beside (told r) b
 
+-- the answer of `advance` by number
 abbrev pub timerAnswer : TimerAnswer → Outcome TimerEvent
 timerAnswer (timerAnswers.Event e) = gives e
 timerAnswer (timerAnswers.Refused e) = refuses (refusalOf e)
 
+-- its answer and procedure
 abbrev pub advanced : Advanced → After TimerEvent ArqProcedure
 advanced r = record { outcome = timerAnswer (r .answer); state = r .procedure }
 
+-- the answer of `status_sent` by number
 abbrev pub sendAnswer : SendAnswer → Outcome SendEvent
 sendAnswer (sendAnswers.Event e) = gives e
 sendAnswer (sendAnswers.Refused e) = refuses (refusalOf e)
 
+-- its answer and procedure
 abbrev pub sent : Sent → After SendEvent ArqProcedure
 sent r = record { outcome = sendAnswer (r .answer); state = r .procedure }
 

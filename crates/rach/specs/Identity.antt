@@ -13,6 +13,7 @@ typeOf (Tmsi24 v) = 1
 typeOf (Min34 v) = 2
 typeOf (Imsi50 v) = 3
 
+-- its value
 abbrev pub valueOf : MobileIdentity → ℕ
 valueOf (Tmsi20 v) = v
 valueOf (Tmsi24 v) = v
@@ -45,5 +46,6 @@ same a b = eqb (typeOf a) (typeOf b) && eqb (valueOf a) (valueOf b)
 unfoldable pub inRange : ℕ → ℕ → Bool
 inRange v w = ltb 0 v && ltb v (2 ^ w)
 
+-- an identity that encoding takes
 unfoldable pub encodable : MobileIdentity → Bool
 encodable i = inRange (valueOf i) (widthOf (typeOf i))

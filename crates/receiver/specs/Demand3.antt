@@ -117,6 +117,7 @@ Delivered n (gives (Accepted Nothing r)) = ⊥
 Delivered n (gives Ignored) = ⊥
 Delivered n (refuses x) = ⊥
 
+-- it gives none
 abbrev pub Undelivered : Outcome Reception → Type 0
 Undelivered (gives (Accepted (Message m) r)) = ⊥
 Undelivered (gives (Accepted Nothing r)) = Unit {0}
@@ -145,6 +146,7 @@ module _ (new : MobileIdentity → Outcome ArqReassembler) (push : ArqReassemble
   abbrev pub next : ArqReassembler → Out → ArqReassembler
   next s o = handed s (o .receiver) (o .outcome)
 
+  -- the state after a list of pushes
   abbrev pub runs : ArqReassembler → List Push → ArqReassembler
   runs s [] = s
   runs s (p ∷ l) = runs (next s (push s (p .octets) (p .buffer))) l
@@ -160,6 +162,7 @@ module _ (new : MobileIdentity → Outcome ArqReassembler) (push : ArqReassemble
     -- "and no other push in the list delivers anything"
     pub others : (Completes i b (count - 1) a p → ⊥) → Silent (p .buffer) (push (runs s a) (p .octets) (p .buffer))
 
+  -- what the claim says of one list, from the state s that the constructor made
   pub record Holds (i : MobileIdentity) (m : List ℕ) (b : ArqFrame) (count : ℕ) (s : ArqReassembler) (l : List Push) : Type 0 where
     -- "For every list of pushes": at each place of it, a the pushes before, p the push, c those after
     pub each : (a : List Push) (p : Push) (c : List Push) → l ≡ a ++ p ∷ c → At i m b count s a p

@@ -4,6 +4,7 @@ use mathlib.Core.Path.{_≡_}
 use Prim.Native.Nat.{ℕ, _/_, _%_, _^_}
 use lib.Bits.{bitOr}
 
+-- bit k of a map, 0 or 1
 abbrev pub bitOf : ℕ → ℕ → ℕ
 bitOf m k = m / 2 ^ k % 2
 

@@ -61,6 +61,7 @@ newOf i = refuse (not (encodable i)) 2 (gives (fresh i))
 abbrev pub blankReceiver : ArqReassembler
 blankReceiver = fresh (Tmsi20 0)
 
+-- the answer of the constructor: the outcome, and the receiver or, beside a refusal, the blank one
 abbrev pub madeAnswer : Made → Outcome Unit × ArqReassembler
 madeAnswer r = (verdictOf (r .verdict), r .receiver)
 
@@ -105,6 +106,7 @@ stored s f = record {
   delivered = s .delivered;
 }
 
+-- the message was delivered
 abbrev pub marked : ArqReassembler → ArqReassembler
 marked s = record {
   identity = s .identity;
@@ -164,6 +166,7 @@ pub record Out : Type 0 where
 abbrev pub refusal : ℕ → ArqReassembler → List ℕ → Out
 refusal n s b = record { outcome = refuses n; receiver = s; buffer = b }
 
+-- Ignored changes nothing
 abbrev pub ignored : ArqReassembler → List ℕ → Out
 ignored s b = record { outcome = gives Ignored; receiver = s; buffer = b }
 
@@ -213,6 +216,7 @@ pushFrame s b f =
     (cond (same (f .identity) (s .identity)) (finish f (begun s f) b) (ignored s b))
     (cond (ours s f) (pushContinue s b f) (ignored s b))
 
+-- decode's refusals come before
 abbrev pub pushDecoded : ArqReassembler → List ℕ → Outcome ArqFrame → Out
 pushDecoded s b (gives f) = pushFrame s b f
 pushDecoded s b (refuses n) = refusal n s b
@@ -226,11 +230,13 @@ abbrev pub pushAnswer : PushAnswer → Outcome Reception
 pushAnswer (answers.Reception r) = gives r
 pushAnswer (answers.Refused e) = refuses (numberOf e)
 
+-- what a push leaves, read so
 abbrev pub pushed : Pushed → List ℕ → Out
 pushed r b = record { outcome = pushAnswer (r .answer); receiver = r .receiver; buffer = b }
 
 -- ---- the other calls
 
+-- `reset`: nothing is held any more
 abbrev pub resetOf : ArqReassembler → ArqReassembler
 resetOf s = fresh (s .identity)
 

@@ -8,6 +8,7 @@ use Rattle.rach.specs.Identity.{encodable}
 use Rattle.receiver.specs.declared.ArqReassembler.{ArqReassembler}
 use Rattle.receiver.specs.Receiver.{needed}
 
+-- what the constructor and the calls make
 pub record Valid (s : ArqReassembler) : Type 0 where
   -- the identity was accepted
   pub identity : encodable (s .identity) ≡ true

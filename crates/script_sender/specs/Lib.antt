@@ -1,1 +1,2 @@
+-- What the sender's comparison keeps between operations, beside oracle/SENDER.md.
 pub mod Machine

@@ -22,7 +22,6 @@ use sender::Sought;
 use spach::ChannelAnswer;
 use transfer::Request;
 ghost use mathlib.Core.Path.{_≡_};
-ghost use Prim.Native.Nat.{_≤_};
 ghost use lib.ListN.{length};
 ghost use Rattle.sender.specs.Arrays.{Whole};
 

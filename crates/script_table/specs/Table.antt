@@ -7,9 +7,11 @@ use mathlib.Core.List.{List, [], _∷_}
 use Prim.Native.Nat.{ℕ}
 use lib.ListN.{getD}
 
+-- octets of operands, from op 0 on
 abbrev pub operandTable : List ℕ
 operandTable = 0 ∷ 9 ∷ 9 ∷ 18 ∷ 9 ∷ 15 ∷ 15 ∷ 3 ∷ 11 ∷ 9 ∷ 0 ∷ 6 ∷ 36 ∷ 33 ∷ 9 ∷ 16 ∷ 18 ∷ 9 ∷ 36 ∷ 0 ∷ 0 ∷ 0 ∷ 8 ∷ 0 ∷ 8 ∷ 0 ∷ 8 ∷ 8 ∷ 8 ∷ 17 ∷ 17 ∷ 0 ∷ 17 ∷ 0 ∷ 0 ∷ 44 ∷ 8 ∷ 25 ∷ 0 ∷ []
 
+-- octets of the longest answer, from op 0 on
 abbrev pub longestTable : List ℕ
 longestTable = 0 ∷ 11 ∷ 1 ∷ 2 ∷ 10 ∷ 4 ∷ 12 ∷ 11 ∷ 1 ∷ 1 ∷ 65 ∷ 1 ∷ 15 ∷ 37 ∷ 1 ∷ 2 ∷ 37 ∷ 1 ∷ 327 ∷ 1 ∷ 7 ∷ 2 ∷ 1 ∷ 9 ∷ 2 ∷ 1 ∷ 1 ∷ 1 ∷ 2 ∷ 2 ∷ 2 ∷ 35 ∷ 1 ∷ 1 ∷ 2 ∷ 336 ∷ 19 ∷ 2 ∷ 42 ∷ []
 

@@ -101,14 +101,17 @@ addressAt o bs =
 
 -- ---- answers by number
 
+-- a channel, or its refusal
 abbrev pub channelAnswer : ChannelAnswer → Outcome Channel
 channelAnswer (channels.Channel c) = gives c
 channelAnswer (channels.Refused e) = refuses (numberOf e)
 
+-- header A, or its refusal
 abbrev pub headerAAnswer : HeaderAAnswer → Outcome HeaderA
 headerAAnswer (headers.Header h) = gives h
 headerAAnswer (headers.Refused e) = refuses (numberOf e)
 
+-- an address, or its refusal
 abbrev pub addressAnswer : AddressAnswer → Outcome Address
 addressAnswer (addresses.Address a) = gives a
 addressAnswer (addresses.Refused e) = refuses (numberOf e)

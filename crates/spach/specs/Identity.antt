@@ -8,6 +8,7 @@ use Rattle.spach.specs.declared.IdentityAnswer.{IdentityAnswer}
 use Rattle.spach.specs.declared.IdentityAnswer.the-variants.{Identity, Refused}
 use Rattle.spach.specs.Refusal.{Outcome, gives, refuses, refuse, numberOf}
 
+-- an identity, or its refusal by number
 abbrev pub identityAnswer : IdentityAnswer → Outcome MobileIdentity
 identityAnswer (Identity i) = gives i
 identityAnswer (Refused e) = refuses (numberOf e)

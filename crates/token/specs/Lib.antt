@@ -1,1 +1,2 @@
+-- Tokens as numbers. Believe `stop` and `fewerThan`.
 pub mod Token

@@ -1,5 +1,5 @@
 -- Two errors of the sender that have one number are the same. Assumes nothing.
-use mathlib.Core.Path.{_≡_, refl, ap, _∙_}
+use mathlib.Core.Path.{_≡_, refl, ap}
 use mathlib.Core.Bool.{true, cond}
 use Prim.Native.Nat.{ℕ}
 use lib.Dec.{eqb, ltb}

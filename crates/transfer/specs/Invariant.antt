@@ -134,6 +134,7 @@ Selected l next (some f) = Some (Chosen f) l × (f .token .submission .0 < next)
 
 -- ---- the sender
 
+-- what every sender is that the constructor and the calls make
 pub record Sound (v : View) : Type 0 where
   pub some-capacity : 1 ≤ v .limits .capacity
   pub most-capacity : v .limits .capacity ≤ 128

@@ -1,8 +1,5 @@
--- 01, module 6: what a sender is, on lists, and what a call with a clock does first. Read this file first, down to `admitted`; then
--- Queue, Transfer and Echo, what a transfer is made of; then Advance, the walk that most calls begin with; then the calls, in
--- the order of the Rust: Enqueue, Prepare, Submitted, Status, Cancel, Refresh, Queries. In each file the call's own definition, of
--- its name and `Of`, comes last. Numbers gives 01's numbers; Invariant says what every sender is that the calls make; History
--- what holds over lists of calls. Sought serves the code alone. Believe the records of this file: all else is said of them.
+-- 01, module 6: what a sender is, on lists, and what a call with a clock does first. Believe the records of this file: all else is
+-- said of them.
 -- Assumes nothing.
 use mathlib.Core.Bool.{Bool, cond, false, _||_}
 use mathlib.Core.List.{List, []}
@@ -37,10 +34,12 @@ pub record Echoes : Type 0 where
   pub «echo_until_ms» : List ℕ
   pub «next_echo» : ℕ
 
+-- the block and the milliseconds that the last accepted call told
 pub record Clock : Type 0 where
   pub «last_block» : ℕ
   pub «last_ms» : ℕ
 
+-- a sender
 pub record View : Type 0 where
   pub limits : Limits
   pub clock : Clock
