@@ -1,6 +1,6 @@
 -- A live transfer stays live through each change that a call makes to it, and a chosen frame stays chosen. Assumes nothing.
 use mathlib.Core.Path.{_≡_, refl, sym, ap, subst, _∙_}
-use mathlib.Core.Bool.{Bool, true, false, cond, not, _&&_, _||_}
+use mathlib.Core.Bool.{Bool, true, false, cond, not, _&&_, _||_, true≢false}
 use Prim.Native.Nat.{ℕ, zero, suc, _-_, _^_, _≤_, _<_, min}
 use native.Mathlib.Omega.{arith}
 use lib.Bits.{bitAnd, bitOr, and-zero-r, and-le-r, or-lt}
@@ -28,7 +28,7 @@ use Rattle.transfer.specs.Status.{shown, observes}
 use Rattle.transfer.specs.Refresh.{refreshed}
 use Rattle.transfer.specs.Invariant.{ByBlock, NotAfter, Accepted, SetsAgree, Timed, Live, Chosen}
 use Rattle.transfer.proofs.Frames.{front-low}
-use Rattle.transfer.proofs.Bitsets.{bit-low, bit-first, bit-and, bit-or, bit-without, bit-added, same-bits, no-bits, bit-none, without-low, lacks-bit, bit-lacks}
+use Rattle.transfer.proofs.Bitsets.{bit-low, bit-first, bit-and, bit-or, bit-without, bit-added, same-bits, no-bits, bit-none, without-low, has-bit, lacks-bit, bit-has, bit-lacks}
 
 -- ---- frames
 
@@ -99,6 +99,14 @@ moved-among o t f k h = same-bits _ _ (λ j.
     let g = bit-low (frameAlone k) j in
     omega (arith, bit-and o (bitOr (withBit t k) (without f (frameAlone k))) j, bit-or t f j, bit-or (withBit t k) (without f (frameAlone k)) j, bit-added t k j, bit-without f (frameAlone k) j))
 
+-- what went out did so when a frame is added to those in flight
+added-has : (t f k j : ℕ) → has (bitOr t f) j ≡ true → has (bitOr t (withBit f k)) j ≡ true
+added-has t f k j h = bit-has (bitOr t (withBit f k)) j (omega (arith, has-bit (bitOr t f) j h, bit-or t f j, bit-or t (withBit f k) j, bit-added f k j, bit-low t j, bit-low f j, bit-low (frameAlone k) j))
+
+-- and when a frame in flight is transmitted
+moved-has : (t f k j : ℕ) → has (bitOr t f) j ≡ true → has (bitOr (withBit t k) (without f (frameAlone k))) j ≡ true
+moved-has t f k j h = bit-has (bitOr (withBit t k) (without f (frameAlone k))) j (omega (arith, has-bit (bitOr t f) j h, bit-or t f j, bit-or (withBit t k) (without f (frameAlone k)) j, bit-added t k j, bit-without f (frameAlone k) j, bit-low t j, bit-low f j, bit-low (frameAlone k) j))
+
 -- what is among a set is so with more of that set
 more-among : (o s w : ℕ) → bitAnd o w ≡ o → bitAnd (bitOr o (bitAnd s w)) w ≡ bitOr o (bitAnd s w)
 more-among o s w h = same-bits _ _ (λ j.
@@ -148,6 +156,7 @@ module _ {l : Limits} {c : Clock} {e : Echoes} {next : ℕ} (x : Transfer) (h : 
         disjoint = ap (bitAnd (frameAlone (x .parcel .frames - 1))) (z .1) ∙ and-zero-r (frameAlone (x .parcel .frames - 1));
         no-begin = s .no-begin;
         went-out = s .went-out;
+        begin-first = s .begin-first;
         submitted = λ q. s .submitted (eq-eqb (x .sets .queue) 0 (z .0));
       })
       (record { progress = h .timed .progress; waiting = h .timed .waiting; last-frame = h .timed .last-frame })
@@ -167,6 +176,7 @@ module _ {l : Limits} {c : Clock} {e : Echoes} {next : ℕ} (x : Transfer) (h : 
         disjoint = ap (bitAnd q) (z .1) ∙ and-zero-r q;
         no-begin = s .no-begin;
         went-out = s .went-out;
+        begin-first = λ k. absurd (true≢false (sym k));
         submitted = λ k. s .submitted (eq-eqb (x .sets .queue) 0 (z .0));
       })
       (record { progress = h .timed .progress; waiting = tt; last-frame = h .timed .last-frame })
@@ -176,7 +186,7 @@ module _ {l : Limits} {c : Clock} {e : Echoes} {next : ℕ} (x : Transfer) (h : 
   waits-live =
       let s = h .sets in
       altered-live _ _
-      (record { queue = s .queue; in-flight = s .in-flight; transmitted = s .transmitted; observed = s .observed; disjoint = s .disjoint; no-begin = s .no-begin; went-out = s .went-out; submitted = s .submitted })
+      (record { queue = s .queue; in-flight = s .in-flight; transmitted = s .transmitted; observed = s .observed; disjoint = s .disjoint; no-begin = s .no-begin; went-out = s .went-out; begin-first = s .begin-first; submitted = s .submitted })
       (record { progress = h .timed .progress; waiting = waits-by (c .«last_block») (x .blocks .«waiting_since») (h .timed .waiting); last-frame = h .timed .last-frame })
 
   -- settled
@@ -202,6 +212,7 @@ module _ {l : Limits} {c : Clock} {e : Echoes} {next : ℕ} (x : Transfer) (h : 
       disjoint = and-zero-r (firstFrames (x .parcel .frames));
       no-begin = refl;
       went-out = refl;
+      begin-first = λ k. absurd (true≢false (sym k));
       submitted = λ k. absurd (first-some (x .parcel .frames) (frames-live x h .0) k);
     };
     timed = record { progress = tt; waiting = tt; last-frame = tt };
@@ -231,6 +242,7 @@ module _ {l : Limits} {c : Clock} {e : Echoes} {next : ℕ} (x : Transfer) (h : 
         disjoint = moved-disjoint (x .sets .queue) (x .sets .«in_flight») frame (s .disjoint);
         no-begin = s .no-begin;
         went-out = added-among (x .sets .observed) (x .sets .transmitted) (x .sets .«in_flight») frame (s .went-out);
+        begin-first = λ k. added-has (x .sets .transmitted) (x .sets .«in_flight») frame 0 (s .begin-first k);
         submitted = λ k. refl;
       })
       (record { progress = omega arith; waiting = h .timed .waiting; last-frame = omega arith })
@@ -252,13 +264,14 @@ module _ {l : Limits} {c : Clock} {e : Echoes} {next : ℕ} (x : Transfer) (h : 
         disjoint = fewer-disjoint (x .sets .queue) (x .sets .«in_flight») (frameAlone frame) (s .disjoint);
         no-begin = s .no-begin;
         went-out = moved-among (x .sets .observed) (x .sets .transmitted) (x .sets .«in_flight») frame (s .went-out);
+        begin-first = λ k. moved-has (x .sets .transmitted) (x .sets .«in_flight») frame 0 (s .begin-first k);
         submitted = s .submitted;
       })
       (record { progress = h .timed .progress; waiting = h .timed .waiting; last-frame = h .timed .last-frame })
 
-  -- a map observed
-  pub observed-live : (map : ℕ) → Live l c e next (observes map (c .«last_block») x)
-  observed-live map =
+  -- a map observed, once the Begin went out
+  pub observed-live : (map : ℕ) → has (wentOut x) 0 ≡ true → Live l c e next (observes map (c .«last_block») x)
+  observed-live map begun =
       let s = h .sets in
       let w : wentOut x < 2 ^ x .parcel .frames = or-lt (x .parcel .frames) (x .sets .transmitted) (x .sets .«in_flight») (s .transmitted) (s .in-flight) in
       altered-live _ _
@@ -270,6 +283,7 @@ module _ {l : Limits} {c : Clock} {e : Echoes} {next : ℕ} (x : Transfer) (h : 
         disjoint = s .disjoint;
         no-begin = more-no-begin (x .sets .observed) map (wentOut x) (s .no-begin);
         went-out = more-among (x .sets .observed) (shown map) (wentOut x) (s .went-out);
+        begin-first = λ k. begun;
         submitted = s .submitted;
       })
       (record { progress = omega arith; waiting = tt; last-frame = last-by (c .«last_block») (x .blocks .«last_frame») (x .blocks .«last_progress») (h .timed .last-frame) (h .timed .progress) })

@@ -25,6 +25,7 @@ use Rattle.transfer.specs.Lists.{removeAt, pushBack}
 use Rattle.transfer.specs.Queue.{has}
 use Rattle.transfer.specs.State.{Clock, View, Lent, withClock, withTransfers, withSelected, tokenTaken, short, admitted, says, blankTransfer, putAt, ended}
 use Rattle.transfer.specs.Echo.{freeEcho}
+use Rattle.transfer.specs.Transfer.{wentOut}
 use Rattle.transfer.specs.Advance.{restart, landed, walk, walked, advanceOf}
 use Rattle.transfer.specs.Prepare.{isReady, frontOf, preparedOf, selects, chooseFrom, choose, prepareOf, hasEchoOf, askedFor, interrupted, interruptOf, repeated, onlyEcho, prioritizeAt, preparePrioritizedOf}
 use Rattle.transfer.specs.Submitted.{wordOf, isOutstanding, confirmFrame, transmittedAt, transmittedOf}
@@ -193,19 +194,19 @@ transmitted-call-kept v m t block now h =
 
 -- ---- status
 
--- the transfer at a place observes a map
-pub put-observed-kept : (v : View) (place map : ℕ) (x : Transfer) → place < length (v .transfers) → x ≡ getD (v .transfers) place blankTransfer → Sound v → Sound (putAt v place (observes map (v .clock .«last_block») x))
-put-observed-kept v place map x lt e h =
+-- the transfer at a place, whose Begin went out, observes a map
+pub put-observed-kept : (v : View) (place map : ℕ) (x : Transfer) → place < length (v .transfers) → x ≡ getD (v .transfers) place blankTransfer → has (wentOut x) 0 ≡ true → Sound v → Sound (putAt v place (observes map (v .clock .«last_block») x))
+put-observed-kept v place map x lt e begun h =
     changed-kept v place (observes map (v .clock .«last_block») x) lt (ap (λ (z : Transfer). z .parcel) e) (ap (λ (z : Transfer). z .generation) e) (ap (λ (z : Transfer). z .echo) e)
-    (observed-live x (subst (Live (v .limits) (v .clock) (v .echoes) (v .«next_token»)) (sym e) (all-at (v .transfers) place blankTransfer lt (h .transfers))) map)
+    (observed-live x (subst (Live (v .limits) (v .clock) (v .echoes) (v .«next_token»)) (sym e) (all-at (v .transfers) place blankTransfer lt (h .transfers))) map begun)
     (λ f c. observed-chosen x (subst (Chosen f) (sym e) c) map (v .clock .«last_block»)) h
 
 -- what `status` does after its first `advance`
 pub shows-kept : (v : View) (s : ArqStatus) → v .«next_token» + 128 ≤ stop → Sound v → Sound (statusAt v s .state)
 shows-kept v s room h =
     status-cases Sound v s h
-    (λ i lt. let x = getD (v .transfers) i blankTransfer in
-    walked-kept (putAt v i (observes (s .«received_frames») (v .clock .«last_block») x)) room (put-observed-kept v i (s .«received_frames») x lt refl h))
+    (λ i lt e. let x = getD (v .transfers) i blankTransfer in
+    walked-kept (putAt v i (observes (s .«received_frames») (v .clock .«last_block») x)) room (put-observed-kept v i (s .«received_frames») x lt refl e h))
 
 -- `status`
 pub status-call-kept : (v : View) (m : Lent) (s : ArqStatus) (block now : ℕ) → Sound v → Sound (statusOf v m s block now .state)

@@ -298,7 +298,7 @@ module _ (fact : Lasting) where
   shows-carries : (v : View) (s : ArqStatus) → Carries v → Carries (statusAt v s .state)
   shows-carries v s h =
       status-cases Carries v s h
-      (λ i lt. let y = observes (s .«received_frames») (v .clock .«last_block») (getD (v .transfers) i blankTransfer) in walked-carries (putAt v i y) (right-put v i y lt (refl, refl, refl) h))
+      (λ i lt e. let y = observes (s .«received_frames») (v .clock .«last_block») (getD (v .transfers) i blankTransfer) in walked-carries (putAt v i y) (right-put v i y lt (refl, refl, refl) h))
 
   -- `status`
   pub status-carries : (v : View) (m : Lent) (s : ArqStatus) (block now : ℕ) → Carries v → Carries (statusOf v m s block now .state)

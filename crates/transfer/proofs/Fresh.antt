@@ -124,6 +124,7 @@ next-live = record {
     disjoint = refl;
     no-begin = refl;
     went-out = refl;
+    begin-first = λ e. absurd (true≢false (sym e));
     submitted = λ e. absurd (true≢false (sym e));
   };
   timed = record { progress = tt; waiting = tt; last-frame = tt };
@@ -146,6 +147,7 @@ sent-live = record {
     disjoint = refl;
     no-begin = refl;
     went-out = refl;
+    begin-first = λ e. absurd (true≢false (sym e));
     submitted = λ e. refl;
   };
   timed = record { progress = lit≤ tt; waiting = tt; last-frame = lit≤ tt };

@@ -376,7 +376,7 @@ status-at-shows v u s low h k = seek-cases {X = After Bool View} P (ofEcho (s .�
         let x = getD (u .transfers) i blankTransfer in
         let w = shown-at i x in
         cond-cases {X = After Bool View} P (has (wentOut x) 0) (says true (walked w)) (says false u)
-        (λ e. walks-shows v (walked w) low (walked-walks v low w (sound-framed w (put-observed-kept u i (s .«received_frames») x lt refl h)) (observed-walks v low u i (s .«received_frames») lt e k))) (λ e. walks-shows v u low k)
+        (λ e. walks-shows v (walked w) low (walked-walks v low w (sound-framed w (put-observed-kept u i (s .«received_frames») x lt refl e h)) (observed-walks v low u i (s .«received_frames») lt e k))) (λ e. walks-shows v u low k)
 
 -- `status`
 status-shows : (v : View) (m : Lent) (s : ArqStatus) (block now : ℕ) → Sound v → Shows v (statusOf v m s block now .state)

@@ -1,7 +1,7 @@
 -- What each change of a sender keeps of `Sound`, and then each call. Assumes nothing.
 use mathlib.Core.Path.{_≡_, refl, sym, ap, subst, _∙_}
 use mathlib.Core.Logic.{_≢_, _⊎_, ⊎-elim}
-use mathlib.Core.Bool.{Bool, true, false, cond, not, _&&_, _||_}
+use mathlib.Core.Bool.{Bool, true, false, cond, not, _&&_, _||_, true≢false}
 use mathlib.Core.List.{List, [], _∷_, _++_, map, append-nil}
 use mathlib.Core.Option.{Option, none, some}
 use Prim.Native.Nat.{ℕ, zero, suc, _+_, _*_, _^_, _-_, _≤_, _<_}
@@ -364,6 +364,7 @@ begun-sets p echo t h =
       disjoint = and-zero-r (firstFrames (p .frames));
       no-begin = refl;
       went-out = refl;
+      begin-first = λ k. absurd (true≢false (sym k));
       submitted = λ k. let e = eqb-true (firstFrames (p .frames)) 0 k in let m : 2 ^ 1 ≤ 2 ^ p .frames = pow-mono h in absurd (omega arith);
     }
 
@@ -443,12 +444,12 @@ confirm-cases P v words t h k =
 
 -- what `status` does after its first `advance`: nothing, or a transfer observes it, and the sender is walked
 pub status-cases : (P : View → Type 0) (v : View) (s : ArqStatus) → P v
-    → ((i : ℕ) → i < length (v .transfers) → P (walked (putAt v i (observes (s .«received_frames») (v .clock .«last_block») (getD (v .transfers) i blankTransfer)))))
+    → ((i : ℕ) → i < length (v .transfers) → let x = getD (v .transfers) i blankTransfer in has (wentOut x) 0 ≡ true → P (walked (putAt v i (observes (s .«received_frames») (v .clock .«last_block») x))))
     → P (statusAt v s .state)
 unfolding statusAt
 status-cases P v s h k =
     seek-cases {X = After Bool View} (λ a. P (a .state)) (ofEcho (s .«partial_echo»)) (v .transfers) (says false v) (λ place x. cond (has (wentOut x) 0) (says true (walked (shown place x))) (says false v)) (λ n. h)
-    (λ i lt g. let x = getD (v .transfers) i blankTransfer in cond-cases {X = After Bool View} (λ a. P (a .state)) (has (wentOut x) 0) (says true (walked (shown i x))) (says false v) (λ e. k i lt) (λ e. h))
+    (λ i lt g. let x = getD (v .transfers) i blankTransfer in cond-cases {X = After Bool View} (λ a. P (a .state)) (has (wentOut x) 0) (says true (walked (shown i x))) (says false v) (k i lt) (λ e. h))
   where
     shown : ℕ → Transfer → View
     shown place x = putAt v place (observes (s .«received_frames») (v .clock .«last_block») x)

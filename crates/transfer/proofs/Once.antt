@@ -122,7 +122,7 @@ module _ (n : ℕ) where
 
   -- what `status` does after its first `advance`
   shows-past : (v : View) (s : ArqStatus) → Past v → Past (statusAt v s .state)
-  shows-past v s h = status-cases Past v s h (λ i lt. walked-past (putAt v i (observes (s .«received_frames») (v .clock .«last_block») (getD (v .transfers) i blankTransfer))) h)
+  shows-past v s h = status-cases Past v s h (λ i lt e. walked-past (putAt v i (observes (s .«received_frames») (v .clock .«last_block») (getD (v .transfers) i blankTransfer))) h)
 
   -- the first that passes is Cancelled
   cancel-first-past : (p : Transfer → Bool) (v : View) → Past v → Past (cancelFirst p v .state)

@@ -379,10 +379,10 @@ transmitted-careful v m t block now h =
 shows-within : (v : View) (s : ArqStatus) → v .«next_token» + 128 ≤ stop → Sound v → Part v (statusAt v s .state)
 shows-within v s room h =
     status-cases (Part v) v s (self v)
-    (λ i lt. let x = getD (v .transfers) i blankTransfer in
+    (λ i lt e. let x = getD (v .transfers) i blankTransfer in
     let y = observes (s .«received_frames») (v .clock .«last_block») x in
     let w = putAt v i y in
-    then (v .clock .«last_ms») v w (walked w) (put-within v i y lt (refl, refl, refl)) (walked-within w room (put-observed-kept v i (s .«received_frames») x lt refl h)))
+    then (v .clock .«last_ms») v w (walked w) (put-within v i y lt (refl, refl, refl)) (walked-within w room (put-observed-kept v i (s .«received_frames») x lt refl e h)))
 
 -- `status`
 status-careful : (v : View) (m : Lent) (s : ArqStatus) (block now : ℕ) → Sound v → Careful v (statusOf v m s block now .state)

@@ -77,6 +77,8 @@ pub record SetsAgree (x : Transfer) : Type 0 where
   -- a status shows Continues alone, and only what went out is observed
   pub no-begin : has (x .sets .observed) 0 ≡ false
   pub went-out : bitAnd (x .sets .observed) (wentOut x) ≡ x .sets .observed
+  -- a status is kept only once the Begin went out
+  pub begin-first : x .sets .«received_status» ≡ true → has (wentOut x) 0 ≡ true
   -- with an empty queue a frame was submitted
   pub submitted : isEmpty (x .sets .queue) ≡ true → isSet (x .blocks .«last_frame») ≡ true
 

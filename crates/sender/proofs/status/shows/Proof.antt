@@ -52,6 +52,10 @@ put-requires c κs =
     let b = c .before .before .before .before .before .before .before .before .before in
     (b .pre .fitted, found-low (ofEcho (b .args .status .«partial_echo»)) (viewOf (b .args .s) .transfers) (c .before .before .before .before .before .before .before .before .find .ensures) (found (c .before .before .before .before)))
 
+-- its Begin went out
+out : (c : tie.Else2) → has (wentOut (c .before .before .before .before .before .before .before .find .result .transfer)) 0 ≡ true
+out c = sym (begun (c .before)) ∙ not-false (c .before .has .result) (c .if2 .left)
+
 -- the sender with the status observed is sound
 put-sound : (c : tie.After-put) → Sound (viewOf (c .put .result))
 unfolding viewOf
@@ -63,7 +67,7 @@ put-sound c =
     let same = c .put .ensures .1 ∙ ap (putAt v (f .result .place)) (c .before .observe .ensures) in
     subst Sound (sym same)
     (put-observed-kept v (f .result .place) (b .args .status .«received_frames») (f .result .transfer)
-    (found-low g (v .transfers) (f .ensures) (found (c .before .before .before .before .before))) (found-there g (v .transfers) (f .ensures)) (b .pre .sound))
+    (found-low g (v .transfers) (f .ensures) (found (c .before .before .before .before .before))) (found-there g (v .transfers) (f .ensures)) (out (c .before .before)) (b .pre .sound))
 
 walk-requires : tie.Need-walk-requires
 walk-requires c κs = record { fitted = c .put .ensures .0; sound = put-sound c }
