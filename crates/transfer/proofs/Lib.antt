@@ -13,6 +13,7 @@ pub mod Holds
 pub mod Instance
 pub mod Kept
 pub mod Listed
+pub mod Literal
 pub mod Lives
 pub mod Once
 pub mod Remarks

@@ -89,7 +89,7 @@ onlyEcho echo none = none
 onlyEcho echo (some f) = cond (eqb (f .«partial_echo») echo) (some f) none
 
 -- the transfer goes to the front; if it has nothing queued then, there is no frame. (The Rust advances once more before it
--- prepares; a second `advance` at the same clock changes nothing.)
+-- prepares, at the same clock, which changes nothing: `prepare-prioritized-literal`.)
 abbrev pub prioritized : View → (octets : List ℕ) → (echo place : ℕ) → Transfer → After (Option PreparedFrame) View
 prioritized v octets echo place x =
     let w = withSelected (withTransfers v (repeated x ∷ removeAt place (v .transfers))) (onlyEcho echo (v .selected)) in

@@ -33,7 +33,7 @@ observes map block x = record {
 }
 
 -- after `advance`: false for an echo that no transfer has, and for one whose Begin did not go out; else `advance` once
--- more. (The Rust settles the transfer before that; `advance` does so at once.)
+-- more. (The Rust settles the transfer before that, which changes nothing: `status-literal`.)
 unfoldable pub statusAt : View → ArqStatus → After Bool View
 statusAt v s =
     seek (ofEcho (s .«partial_echo»)) (v .transfers) (says false v) (λ place x.

@@ -104,7 +104,7 @@ confirmFrame frame x = withSets x (record {
 })
 
 -- found, and whether the Rust calls `completed`: all frames are transmitted now. Then `advance`. (The Rust settles the transfer
--- before that; `advance` does so at once.)
+-- before that, which changes nothing: `transmitted-literal`.)
 abbrev pub confirms : View → FrameToken → (place : ℕ) → Transfer → After Confirmation View
 confirms v t place x = let y = confirmFrame (t .frame) x in says (Found (allTransmitted y)) (walked (putAt v place y))
 
