@@ -2,7 +2,7 @@
 use mathlib.Core.Path.{_≡_, refl, sym, ap, _∙_}
 use mathlib.Core.Bool.{Bool, true, false, cond, _&&_, _||_}
 use mathlib.Core.List.{List, []}
-use mathlib.Core.Option.{Option, none}
+use mathlib.Core.Option.{Option}
 use Prim.Native.Nat.{ℕ, _≤_}
 use borrow.Author.Tests.{ltb-false}
 use lib.Dec.{eqb, ltb}
@@ -32,11 +32,12 @@ use Rattle.transfer.proofs.Calls.{admitted-walked-kept}
 use Rattle.transfer.proofs.Kept.{neither, admitted-kept, ticked-kept}
 use Rattle.sender.specs.declared.GrantAnswer.{GrantAnswer}
 use Rattle.sender.specs.declared.GrantAnswer.the-variants as grants
+use Rattle.sender.specs.declared.Selection.{Selection}
 use Rattle.sender.specs.declared.Sender.{Sender}
 use Rattle.sender.specs.declared.Verdict.{Verdict}
 use Rattle.sender.specs.declared.Verdict.the-variants.{Accepted, Refused}
 use Rattle.sender.specs.Answers.{verdictOf, grantAnswer, told, left}
-use Rattle.sender.specs.Arrays.{viewOf, lent, Fitted, Whole}
+use Rattle.sender.specs.Arrays.{blankSelection, viewOf, lent, Fitted, Whole}
 use Rattle.sender.specs.Asked.{isShort, tickOf, admitOf}
 use Rattle.sender.proofs.Found.{held-any}
 use Rattle.sender.proofs.Handed.{walked-past}
@@ -129,8 +130,8 @@ module _ {v : View} {octets words : List ℕ} {block ms : ℕ} where
     turned-back-out f = sym (ap (λ (o : Outcome View). goesOn v (lent octets words) o f) (admitted-as k))
 
     -- of a call that prepares: there is no frame
-    pub turned-back-told : (f : View → After (Option PreparedFrame) View) {s : Option PreparedFrame} → s ≡ none → ((refuses (refusalOf z), s), v) ≡ told (onward v (admitted v (lent octets words) block ms) f)
-    turned-back-told f e = ap (λ (o : Option PreparedFrame). ((refuses (refusalOf z), o), v)) e ∙ ap told (turned-back f)
+    pub turned-back-told : (f : View → After (Option PreparedFrame) View) {s : Selection} → s ≡ blankSelection → ((refuses (refusalOf z), s), v) ≡ told (onward v (admitted v (lent octets words) block ms) f)
+    turned-back-told f e = ap (λ (o : Selection). ((refuses (refusalOf z), o), v)) e ∙ ap told (turned-back f)
 
   module _ (k : Asked v octets words block ms Accepted) where
     -- it is let through, its clock moved, and the call goes on

@@ -21,7 +21,9 @@ use Rattle.transfer.specs.Prepare.{isReady, packedOf, frontOf, selects, chooseF
 use Rattle.transfer.specs.Queue.{front, oneLeft}
 use Rattle.transfer.specs.Sought.{placeOf}
 use Rattle.transfer.specs.State.{View, withTransfers, withSelected, says, ofEcho}
+use Rattle.sender.specs.declared.Selection.{Selection}
 use Rattle.sender.specs.Answers.{told}
+use Rattle.sender.specs.Arrays.{blankSelection, selectionAs}
 use Rattle.sender.proofs.Found.{seek-found, seek-none}
 
 -- ---- a selection of one echo
@@ -60,26 +62,26 @@ module _ (x : Transfer) (octets : List ℕ) {k : ℕ} {polling : Bool} (ek : k �
 module _ (v : View) (x : Transfer) (octets : List ℕ) {k : ℕ} {polling : Bool} {w : Verdict} {p : PackedFrame}
     (ek : k ≡ front (x .sets .queue)) (ep : polling ≡ oneLeft (x .sets .queue)) (e : (verdictOf w, p) ≡ answered blankPacked (packedOf x octets k polling)) where
   -- it is refused
-  pub select-refused : {z : SpachError} {s : Option PreparedFrame} → w ≡ Refused z → s ≡ none → ((refuses (numberOf z), s), v) ≡ told (selects v x (frontOf x octets))
+  pub select-refused : {z : SpachError} {s : Selection} → w ≡ Refused z → s ≡ blankSelection → ((refuses (numberOf z), s), v) ≡ told (selects v x (frontOf x octets))
   select-refused {z} {s} q es =
-      ap (λ (o : Option PreparedFrame). ((refuses (numberOf z), o), v)) es
+      ap (λ (o : Selection). ((refuses (numberOf z), o), v)) es
       ∙ sym (ap (λ (o : Outcome PackedFrame). told (selects v x o)) (answered-refuses blankPacked (frontOf x octets) (front-packed x octets ek ep e) q .0))
 
   -- it is selected
   pub select-made : {n : ℕ} → w ≡ Accepted → n ≡ numberAfter (v .«next_token») →
-      ((gives tt, some (framed x p (v .«next_token») k)), counted v (some (framed x p (v .«next_token») k)) n) ≡ told (selects v x (frontOf x octets))
+      ((gives tt, selectionAs (some (framed x p (v .«next_token») k))), counted v (some (framed x p (v .«next_token») k)) n) ≡ told (selects v x (frontOf x octets))
   select-made {n} q en =
-      ap (λ (m : ℕ). ((gives tt, some (framed x p (v .«next_token») k)), counted v (some (framed x p (v .«next_token») k)) m)) en
-      ∙ (ap (λ (j : ℕ). ((gives tt, some (framed x p (v .«next_token») j)), counted v (some (framed x p (v .«next_token») j)) (numberAfter (v .«next_token»)))) ek
+      ap (λ (m : ℕ). ((gives tt, selectionAs (some (framed x p (v .«next_token») k))), counted v (some (framed x p (v .«next_token») k)) m)) en
+      ∙ (ap (λ (j : ℕ). ((gives tt, selectionAs (some (framed x p (v .«next_token») j))), counted v (some (framed x p (v .«next_token») j)) (numberAfter (v .«next_token»)))) ek
       ∙ sym (ap (λ (o : Outcome PackedFrame). told (selects v x o)) (answered-gives blankPacked (frontOf x octets) (front-packed x octets ek ep e) q)))
 
 -- ---- a choice
 
 module _ (v : View) (octets : List ℕ) where
   -- the selected frame stays
-  pub choose-held : {f : PreparedFrame} → v .selected ≡ some f → ((gives tt, v .selected), v) ≡ told (choose v octets)
+  pub choose-held : {f : PreparedFrame} {s : Selection} → v .selected ≡ some f → s ≡ selectionAs (some f) → ((gives tt, s), v) ≡ told (choose v octets)
   unfolding choose
-  choose-held q = ap (λ (s : Option PreparedFrame). ((gives tt, s), v)) q ∙ sym (ap (λ (s : Option PreparedFrame). told (chooseFrom v octets s)) q)
+  choose-held q e = ap (λ (s : Selection). ((gives tt, s), v)) e ∙ sym (ap (λ (s : Option PreparedFrame). told (chooseFrom v octets s)) q)
 
   module _ (q : v .selected ≡ none) {r : Place} (e : r ≡ placeOf isReady (v .transfers)) where
     -- the first that has one queued
@@ -90,10 +92,10 @@ module _ (v : View) (octets : List ℕ) where
         ∙ sym (ap (λ (s : Option PreparedFrame). told (chooseFrom v octets s)) q)
 
     -- none has one queued
-    pub choose-none : r .held ≡ false → ((gives tt, v .selected), v) ≡ told (choose v octets)
+    pub choose-none : {s : Selection} → r .held ≡ false → s ≡ blankSelection → ((gives tt, s), v) ≡ told (choose v octets)
     unfolding choose
-    choose-none h =
-        ap (λ (s : Option PreparedFrame). ((gives tt, s), v)) q
+    choose-none h es =
+        ap (λ (s : Selection). ((gives tt, s), v)) es
         ∙ (ap told (seek-none isReady (v .transfers) (says none v) (λ place x. selects v x (frontOf x octets)) e h)
         ∙ sym (ap (λ (s : Option PreparedFrame). told (chooseFrom v octets s)) q))
 
@@ -113,10 +115,10 @@ fronted-by v echo place y {x} {m} {s} ex em es =
 
 module _ (v : View) (octets : List ℕ) (echo : ℕ) {r : Place} (e : r ≡ placeOf (ofEcho echo) (v .transfers)) where
   -- no transfer has the echo
-  pub prioritize-none : {s : Option PreparedFrame} → r .held ≡ false → s ≡ none → ((gives tt, s), v) ≡ told (prioritizeAt v octets echo)
+  pub prioritize-none : {s : Selection} → r .held ≡ false → s ≡ blankSelection → ((gives tt, s), v) ≡ told (prioritizeAt v octets echo)
   unfolding prioritizeAt
   prioritize-none t es =
-      ap (λ (o : Option PreparedFrame). ((gives tt, o), v)) es ∙ ap told (seek-none (ofEcho echo) (v .transfers) (says none v) (prioritized v octets echo) e t)
+      ap (λ (o : Selection). ((gives tt, o), v)) es ∙ ap told (seek-none (ofEcho echo) (v .transfers) (says none v) (prioritized v octets echo) e t)
 
   module _ (t : r .held ≡ true) {x : Transfer} (ex : x ≡ repeated (r .transfer)) {w : View} (ew : w ≡ fronted v echo (r .place) (r .transfer)) where
     -- the transfer that has it, at the front
@@ -128,8 +130,8 @@ module _ (v : View) (octets : List ℕ) (echo : ℕ) {r : Place} (e : r ≡ plac
         ∙ ap told (seek-found (ofEcho echo) (v .transfers) (says none v) (prioritized v octets echo) e t))
 
     -- it has nothing queued
-    pub prioritize-idle : {s : Option PreparedFrame} → x .sets .queue ≡ 0 → s ≡ none → ((gives tt, s), w) ≡ told (prioritizeAt v octets echo)
-    prioritize-idle q es = ap (λ (o : Option PreparedFrame). ((gives tt, o), w)) es ∙ prioritize-found false (ap not (eq-eqb (x .sets .queue) 0 q))
+    pub prioritize-idle : {s : Selection} → x .sets .queue ≡ 0 → s ≡ blankSelection → ((gives tt, s), w) ≡ told (prioritizeAt v octets echo)
+    prioritize-idle q es = ap (λ (o : Selection). ((gives tt, o), w)) es ∙ prioritize-found false (ap not (eq-eqb (x .sets .queue) 0 q))
 
     -- it has a frame queued
     pub prioritize-ready : (x .sets .queue ≡ 0 → ⊥) → told (choose w octets) ≡ told (prioritizeAt v octets echo)

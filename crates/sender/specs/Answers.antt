@@ -1,7 +1,7 @@
 -- The answers of the sender's calls, and what a call leaves, read as the definitions speak of it. Assumes nothing.
 use mathlib.Core.Bool.{Bool}
-use mathlib.Core.Option.{Option, none}
-use Rattle.spach.specs.Refusal.{Outcome, gives, refuses, answered, After}
+use mathlib.Core.Option.{Option}
+use Rattle.spach.specs.Refusal.{Outcome, gives, refuses, andThen, answered, After}
 use Rattle.transfer.specs.declared.TransferToken.{TransferToken}
 use Rattle.transfer.specs.declared.PreparedFrame.{PreparedFrame}
 use Rattle.sender.specs.declared.Verdict.{Verdict}
@@ -26,7 +26,8 @@ use Rattle.sender.specs.declared.Popped.{Popped}
 use Rattle.transfer.specs.State.{View, Lent, Out, says}
 use Rattle.transfer.specs.Enqueue.{Grant}
 use Rattle.transfer.specs.Numbers.{refusalOf}
-use Rattle.sender.specs.Arrays.{viewOf, selectionOf}
+use Rattle.sender.specs.declared.Selection.{Selection}
+use Rattle.sender.specs.Arrays.{viewOf, blankSelection, selectionAs}
 
 -- ---- answers
 
@@ -77,13 +78,13 @@ submitted r m = record { outcome = verdictOf (r .verdict); sender = viewOf (r .s
 abbrev pub enqueued : Enqueued → Lent → Out TransferToken
 enqueued r m = record { outcome = enqueueAnswer (r .answer); sender = viewOf (r .sender); lent = m }
 
--- `prepare` and `prepare_prioritized`: beside a refusal there is no frame
-abbrev pub prepared : Prepared → (Outcome Unit × Option PreparedFrame) × View
-prepared r = ((verdictOf (r .verdict), selectionOf (r .selection)), viewOf (r .sender))
+-- `prepare` and `prepare_prioritized`
+abbrev pub prepared : Prepared → (Outcome Unit × Selection) × View
+prepared r = ((verdictOf (r .verdict), r .selection), viewOf (r .sender))
 
--- what they leave, so told
-abbrev pub told : After (Option PreparedFrame) View → (Outcome Unit × Option PreparedFrame) × View
-told a = (answered none (a .outcome), a .state)
+-- what they leave, so told: beside a refusal, and where there is no frame, stands the blank selection
+abbrev pub told : After (Option PreparedFrame) View → (Outcome Unit × Selection) × View
+told a = (answered blankSelection (andThen (a .outcome) (λ f. gives (selectionAs f))), a .state)
 
 -- `interrupt` and `status`
 abbrev pub sought : Sought → After Bool View

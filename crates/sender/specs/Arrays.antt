@@ -1,10 +1,11 @@
 -- What the arrays of a sender stand for. The definitions of the calls, in crates/transfer/specs, speak of a sender as the view
 -- that `viewOf` takes of it. Believe `viewOf`. Assumes nothing.
-use mathlib.Core.Bool.{cond}
+use mathlib.Core.Bool.{true, false, cond}
 use mathlib.Core.List.{List, map}
 use mathlib.Core.Option.{Option, none, some}
 use Prim.Native.Nat.{ℕ, _≤_}
-use lib.ListN.{take}
+use lib.ListN.{take, replicate}
+use Rattle.rach.specs.declared.MobileIdentity.the-variants.{Tmsi20}
 use Rattle.transfer.specs.declared.PreparedFrame.{PreparedFrame}
 use Rattle.transfer.specs.State.{View, Lent}
 use Rattle.transfer.specs.Invariant.{Sound}
@@ -15,7 +16,19 @@ use Rattle.sender.specs.declared.Sender.{Sender}
 abbrev pub selectionOf : Selection → Option PreparedFrame
 selectionOf s = cond (s .held) (some (s .frame)) none
 
--- the slots past `pending` and `waiting`, and the frame of a selection that is not held, are not looked at: they are free
+-- the blank selection, which an answer has where there is no frame
+abbrev pub blankSelection : Selection
+blankSelection = record {
+  held = false;
+  frame = record { identity = Tmsi20 0; octets = replicate 14 0; token = record { generation = record { 0 = 0 }; submission = record { 0 = 0 }; frame = 0 }; «partial_echo» = 0 };
+}
+
+-- a frame as an answer has it, or the blank selection
+abbrev pub selectionAs : Option PreparedFrame → Selection
+selectionAs none = blankSelection
+selectionAs (some f) = record { held = true; frame = f }
+
+-- of the state, the slots past `pending` and `waiting` and the frame of a selection that is not held are not looked at: they are free
 unfoldable pub viewOf : Sender → View
 viewOf s = record {
   limits = record { capacity = s .capacity; «startup_until_block» = s .«startup_until_block»; «echo_guard_ms» = s .«echo_guard_ms» };

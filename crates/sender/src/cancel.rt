@@ -2,7 +2,7 @@
 use super::Cancelled;
 use super::EventSlot;
 use super::Sender;
-use super::prepare::dropped;
+use super::fresh::unselected;
 use super::table::cancel_at;
 use super::table::find;
 use transfer::Event;
@@ -32,8 +32,7 @@ pub fn all_cancelled(s: Sender) -> Sender
         r.events[m + i] = EventSlot { event: event };
         i += 1;
     }
-    let selected = r.selected;
-    r.selected = dropped(selected);
+    r.selected = unselected();
     r.pending = 0;
     r.waiting = m + n;
     r

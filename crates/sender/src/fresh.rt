@@ -9,14 +9,13 @@ use transfer::FrameToken;
 use transfer::Generation;
 use transfer::PreparedFrame;
 use transfer::Submission;
-ghost use mathlib.Core.Option.{none};
 ghost use mathlib.Core.Path.{_≡_};
 ghost use Rattle.transfer.specs.State as state;
-ghost use Rattle.sender.specs.Arrays.{selectionOf, viewOf, Fitted};
+ghost use Rattle.sender.specs.Arrays.{blankSelection, viewOf, Fitted};
 
-// No frame is selected.
-fn unselected() -> Selection
-    ensures { λ r. ⌜ selectionOf r ≡ none ⌝ }
+// No frame.
+pub fn unselected() -> Selection
+    ensures { λ r. ⌜ r ≡ blankSelection ⌝ }
 {
     let identity = MobileIdentity::Tmsi20(0);
     let token = FrameToken {

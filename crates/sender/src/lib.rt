@@ -20,8 +20,8 @@ use clock::tick;
 use enqueue::accept;
 use enqueue::grant;
 use fresh::fresh;
+use fresh::unselected;
 use prepare::choose;
-use prepare::dropped;
 use prepare::prioritize;
 use rach::MobileIdentity;
 use receiver::ArqStatus;
@@ -296,8 +296,7 @@ impl Sender {
             now_ms,
         );
         if let Verdict::Refused(error) = verdict {
-            let selected = self.selected;
-            let nothing = dropped(selected);
+            let nothing = unselected();
             return Prepared {
                 sender: self,
                 verdict: Verdict::Refused(error),
@@ -382,8 +381,7 @@ impl Sender {
             now_ms,
         );
         if let Verdict::Refused(error) = verdict {
-            let selected = self.selected;
-            let nothing = dropped(selected);
+            let nothing = unselected();
             return Prepared {
                 sender: self,
                 verdict: Verdict::Refused(error),

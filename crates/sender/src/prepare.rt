@@ -3,6 +3,7 @@ use super::Prepared;
 use super::Selection;
 use super::Sender;
 use super::Verdict;
+use super::fresh::unselected;
 use super::table::find;
 use super::table::moved_to_front;
 use spach::Verdict as Answer;
@@ -17,22 +18,12 @@ use transfer::effects::repeated;
 use transfer::frame::packed_of;
 use transfer::queue::front;
 use transfer::queue::one_left;
-ghost use mathlib.Core.Option.{none};
 ghost use mathlib.Core.Path.{_≡_};
 ghost use Prim.Native.Nat.{_+_, _*_, _≤_};
 ghost use lib.ListN.{length};
 ghost use Rattle.transfer.specs.Prepare as definition;
 ghost use Rattle.sender.specs.Answers.{prepared, told};
 ghost use Rattle.sender.specs.Arrays.{selectionOf, viewOf, Fitted, Whole};
-
-// Nothing is held.
-pub fn dropped(selection: Selection) -> Selection
-    ensures { λ r. ⌜ selectionOf r ≡ none ⌝ }
-{
-    let mut r = selection;
-    r.held = false;
-    r
-}
 
 // A selected frame of another echo is dropped.
 pub fn only_echo(selection: Selection, echo: u8) -> Selection
@@ -59,9 +50,8 @@ fn select(s: Sender, x: Transfer, store: &[u8]) -> Prepared
     let encoded = packed_of(x, store, k, one_left(sets.queue));
     let verdict = encoded.verdict;
     let packed = encoded.frame;
-    let old = s.selected;
     if let Answer::Refused(error) = verdict {
-        let nothing = dropped(old);
+        let nothing = unselected();
         return Prepared {
             sender: s,
             verdict: Verdict::Refused(Error::Wire(error)),
@@ -112,10 +102,11 @@ pub fn choose(s: Sender, store: &[u8]) -> Prepared
     if found.held {
         return select(s, x, store);
     }
+    let nothing = unselected();
     Prepared {
         sender: s,
         verdict: Verdict::Accepted,
-        selection: old,
+        selection: nothing,
     }
 }
 
@@ -127,7 +118,7 @@ pub fn prioritize(s: Sender, echo: u8, store: &[u8]) -> Prepared
     let found = find(s, Key::Echo(echo));
     let old = s.selected;
     if !found.held {
-        let nothing = dropped(old);
+        let nothing = unselected();
         return Prepared {
             sender: s,
             verdict: Verdict::Accepted,
@@ -140,7 +131,7 @@ pub fn prioritize(s: Sender, echo: u8, store: &[u8]) -> Prepared
     let selected = only_echo(old, echo);
     r.selected = selected;
     if sets.queue == 0 {
-        let nothing = dropped(old);
+        let nothing = unselected();
         return Prepared {
             sender: r,
             verdict: Verdict::Accepted,

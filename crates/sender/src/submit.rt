@@ -5,7 +5,7 @@ use super::Moved;
 use super::Selection;
 use super::Sender;
 use super::Verdict;
-use super::prepare::dropped;
+use super::fresh::unselected;
 use super::table::find;
 use super::table::pushed;
 use super::table::put;
@@ -77,8 +77,7 @@ fn hand_in(s: Sender, token: FrameToken, place: usize, x: Transfer, words: &mut 
 {
     let p = x.parcel;
     let y = in_flight(token.frame, s.last_block, x);
-    let old = s.selected;
-    let nothing = dropped(old);
+    let nothing = unselected();
     words[27 * (p.n as usize) + token.frame] = token.submission.0;
     let mut r = pushed(removed(s, place), y);
     r.selected = nothing;

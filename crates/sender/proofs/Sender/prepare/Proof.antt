@@ -1,13 +1,12 @@
 -- `sender::Sender::prepare` meets its contract. Assumes nothing.
 use mathlib.Core.Path.{_≡_, ap, _∙_}
-use mathlib.Core.Option.{Option}
 use borrow.Author.Needs.{needs}
 use Rattle.spach.specs.Refusal.{Outcome}
-use Rattle.transfer.specs.declared.PreparedFrame.{PreparedFrame}
 use Rattle.transfer.specs.Advance.{walked}
 use Rattle.transfer.specs.Prepare.{choose, prepareOf}
 use Rattle.transfer.specs.State.{View}
 use Rattle.transfer.proofs.Calls.{prepare-call-kept}
+use Rattle.sender.specs.declared.Selection.{Selection}
 use Rattle.sender.specs.Answers.{prepared, told}
 use Rattle.sender.specs.Arrays.{viewOf, lent}
 use Rattle.sender.proofs.Admitted.{asked, Through, turned-back-told, goes-on, through-room, walked-by, through-whole, walked-whole}
@@ -24,16 +23,16 @@ admit-requires c κs = tt
 enum-known-verdict : tie.Need-enum-known-verdict
 enum-known-verdict c = search needs
 
-dropped-requires : tie.Need-dropped-requires
-dropped-requires c κs = tt
+unselected-requires : tie.Need-unselected-requires
+unselected-requires c κs = tt
 
 returns : tie.Need-returns
 unfolding viewOf prepareOf
 returns c =
-    let b = c .before .before .before .before .before .before .before .before .before in
+    let b = c .before .before .before .before .before .before .before .before in
     let a = b .args in
-    let k = asked (viewOf (a .self)) (a .store .now) (a .words .now) (a .block) (a .now-ms) (c .before .before .before .before .before .before .short .ensures) (c .before .before .before .before .before .admit .ensures) (c .before .before .before .verdict .given .1) in
-    (turned-back-told k (λ w. choose (walked w) (a .store .now)) (c .dropped .ensures), b .pre)
+    let k = asked (viewOf (a .self)) (a .store .now) (a .words .now) (a .block) (a .now-ms) (c .before .before .before .before .before .short .ensures) (c .before .before .before .before .admit .ensures) (c .before .before .verdict .given .1) in
+    (turned-back-told k (λ w. choose (walked w) (a .store .now)) (c .unselected .ensures), b .pre)
 
 enum-told : tie.Need-enum-told
 enum-told c = search needs
@@ -62,7 +61,7 @@ returns-2 c =
     let k = through (c .before .before) in
     let p : prepared (c .choose .result) ≡ told (prepareOf (viewOf (a .self)) (lent (a .store .now) (a .words .now)) (a .block) (a .now-ms)) =
     c .choose .ensures .1 ∙ (ap (λ (u : View). told (choose u (a .store .now))) (walked-by k (b .pre .sound) (c .before .walk .ensures .1)) ∙ ap told (goes-on k (λ w. choose (walked w) (a .store .now)))) in
-    (p, whole-by (c .choose .ensures .0) (ap (λ (x : (Outcome Unit × Option PreparedFrame) × View). x .1) p) (prepare-call-kept (viewOf (a .self)) (lent (a .store .now) (a .words .now)) (a .block) (a .now-ms) (b .pre .sound)))
+    (p, whole-by (c .choose .ensures .0) (ap (λ (x : (Outcome Unit × Selection) × View). x .1) p) (prepare-call-kept (viewOf (a .self)) (lent (a .store .now) (a .words .now)) (a .block) (a .now-ms) (b .pre .sound)))
 
 pub prepare-spec : {M : Type 1} → statement M
 prepare-spec =
@@ -71,7 +70,7 @@ prepare-spec =
     short-requires
     admit-requires
     enum-known-verdict
-    dropped-requires
+    unselected-requires
     returns
     enum-told
     walk-requires

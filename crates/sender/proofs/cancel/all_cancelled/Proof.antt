@@ -57,11 +57,11 @@ mul-x c = omega arith
 element-copy-out-x : tie.Need-element-copy-out-x Inv-loop μ-loop
 element-copy-out-x c = omega arith
 
-add-t11 : tie.Need-add-t11 Inv-loop μ-loop
-add-t11 c = omega arith
+add-t10 : tie.Need-add-t10 Inv-loop μ-loop
+add-t10 c = omega arith
 
-mul-t16 : tie.Need-mul-t16 Inv-loop μ-loop
-mul-t16 c = omega arith
+mul-t15 : tie.Need-mul-t15 Inv-loop μ-loop
+mul-t15 c = omega arith
 
 element-set-from-r : tie.Need-element-set-from-r Inv-loop μ-loop
 element-set-from-r c = omega arith
@@ -85,8 +85,8 @@ loop-again c =
     let same : eventOf x ≡ cancelled (getD (s .transfers) (l .i) blankTransfer) = ap (λ (t : List Transfer). cancelled (getD t (l .i) blankTransfer)) (v .3) in
     (omega arith, v .1, v .2, v .3, length-set (l .r .events) (s .waiting + l .i) x ∙ v .4, behind-more eventOf cancelled (s .events) (l .r .events) (s .transfers) (s .waiting) (l .i) x blankTransfer (omega arith) (omega arith) same (v .5), v .6)
 
-dropped-requires : tie.Need-dropped-requires Inv-loop μ-loop
-dropped-requires c κs = tt
+unselected-requires : tie.Need-unselected-requires Inv-loop μ-loop
+unselected-requires c κs = tt
 
 add-r : tie.Need-add-r Inv-loop μ-loop
 add-r c = omega arith
@@ -94,16 +94,16 @@ add-r c = omega arith
 returns : tie.Need-returns Inv-loop μ-loop
 unfolding viewOf cancelAllOf
 returns c =
-    let b = c .before .before .before .before in
+    let b = c .before .before .before in
     let s = b .args .s in
-    let l = c .before .before .before .loop in
+    let l = c .before .before .loop in
     let v = l .inv in
     let ended : l .i ≡ s .pending = omega arith in
     let events : List Event = map eventOf (take (s .waiting) (s .events)) ++ map cancelled (take (s .pending) (s .transfers)) in
     let read : map eventOf (take (s .waiting + s .pending) (l .r .events)) ≡ events = rw (← ended) (v .5) in (
       record { pending = omega arith; waiting = omega arith },
-      ap (λ (k : List Event). withSelected (withTransfers (withEvents (viewOf (l .r)) k) []) (selectionOf (c .dropped .result))) read ∙
-          (ap (λ (o : Option PreparedFrame). withSelected (withTransfers (withEvents (viewOf (l .r)) events) []) o) (c .dropped .ensures) ∙
+      ap (λ (k : List Event). withSelected (withTransfers (withEvents (viewOf (l .r)) k) []) (selectionOf (c .unselected .result))) read ∙
+          (ap (λ (o : Option PreparedFrame). withSelected (withTransfers (withEvents (viewOf (l .r)) events) []) o) (ap selectionOf (c .unselected .ensures)) ∙
           ap (λ (u : View). withSelected (withTransfers (withEvents u events) []) none) (v .6)),
     )
 
@@ -116,12 +116,12 @@ all-cancelled-spec =
     loop-holds
     mul-x
     element-copy-out-x
-    add-t11
-    mul-t16
+    add-t10
+    mul-t15
     element-set-from-r
     add-i
     loop-less
     loop-again
-    dropped-requires
+    unselected-requires
     add-r
     returns)

@@ -1,10 +1,9 @@
 -- `sender::fresh::fresh` meets its contract. Assumes nothing.
 use mathlib.Core.Path.{ap}
-use mathlib.Core.Option.{Option}
 use native.Mathlib.Omega.{arith}
-use Rattle.transfer.specs.declared.PreparedFrame.{PreparedFrame}
 use Rattle.transfer.specs.State.{fresh, withSelected}
-use Rattle.sender.specs.Arrays.{viewOf}
+use Rattle.sender.specs.declared.Selection.{Selection}
+use Rattle.sender.specs.Arrays.{selectionOf, viewOf}
 use Rattle.sender.proofs.fresh.fresh.Statement.{statement}
 use Rattle.sender.proofs.fresh.fresh.Tie as tie
 
@@ -19,7 +18,7 @@ unfolding viewOf
 returns c =
     let a = c .before .before .before .args in (
       record { pending = omega arith; waiting = omega arith },
-      ap (λ (o : Option PreparedFrame). withSelected (fresh (a .capacity) (a .echo-guard-ms) (a .startup-until-block) (a .first)) o) (c .unselected .ensures),
+      ap (λ (o : Selection). withSelected (fresh (a .capacity) (a .echo-guard-ms) (a .startup-until-block) (a .first)) (selectionOf o)) (c .unselected .ensures),
     )
 
 pub fresh-spec : {M : Type 1} → statement M

@@ -15,7 +15,7 @@ unfolding viewOf
 returns c =
     let b = c .before .before .before in
     let a = b .args in
-    (b .pre .0 .fitted, choose-held (viewOf (a .s)) (a .store .now) (ap (λ (h : Bool). cond h (some (a .s .selected .frame)) none) (c .if1 .taken)))
+    (b .pre .0 .fitted, choose-held (viewOf (a .s)) (a .store .now) (ap (λ (h : Bool). cond h (some (a .s .selected .frame)) none) (c .if1 .taken)) (ap (λ (h : Bool). record { held = h; frame = a .s .selected .frame }) (c .if1 .taken)))
 
 find-requires : tie.Need-find-requires
 find-requires c κs = let b = c .before .before .before in b .pre .0 .fitted
@@ -35,14 +35,17 @@ returns-2 c =
           ∙ choose-found (viewOf (a .s)) (a .store .now) (ap (λ (h : Bool). cond h (some (a .s .selected .frame)) none) (c .before .before .before .before .if1 .left)) (c .before .before .before .find .ensures) (c .before .if2 .taken),
     )
 
+unselected-requires : tie.Need-unselected-requires
+unselected-requires c κs = tt
+
 returns-3 : tie.Need-returns-3
 unfolding viewOf
 returns-3 c =
-    let b = c .before .before .before .before .before .before in
+    let b = c .before .before .before .before .before .before .before in
     let a = b .args in (
       b .pre .0 .fitted,
-      choose-none (viewOf (a .s)) (a .store .now) (ap (λ (h : Bool). cond h (some (a .s .selected .frame)) none) (c .before .before .before .if1 .left)) (c .before .before .find .ensures) (c .if2 .left),
+      choose-none (viewOf (a .s)) (a .store .now) (ap (λ (h : Bool). cond h (some (a .s .selected .frame)) none) (c .before .before .before .before .if1 .left)) (c .before .before .before .find .ensures) (c .before .if2 .left) (c .unselected .ensures),
     )
 
 pub choose-spec : {M : Type 1} → statement M
-choose-spec = tie.close (tie.spec returns find-requires select-requires returns-2 returns-3)
+choose-spec = tie.close (tie.spec returns find-requires select-requires returns-2 unselected-requires returns-3)

@@ -14,15 +14,15 @@ use Rattle.sender.proofs.prepare.prioritize.Tie as tie
 find-requires : tie.Need-find-requires
 find-requires c κs = let b = c .before in b .pre .0 .fitted
 
-dropped-requires : tie.Need-dropped-requires
-dropped-requires c κs = tt
+unselected-requires : tie.Need-unselected-requires
+unselected-requires c κs = tt
 
 returns : tie.Need-returns
 returns c =
     let b = c .before .before .before .before .before .before in
     let a = b .args in
     let f = c .before .before .before .before .find in
-    (b .pre .0 .fitted, prioritize-none (viewOf (a .s)) (a .store .now) (a .echo) (f .ensures) (not-true (f .result .held) (c .before .if1 .taken)) (c .dropped .ensures))
+    (b .pre .0 .fitted, prioritize-none (viewOf (a .s)) (a .store .now) (a .echo) (f .ensures) (not-true (f .result .held) (c .before .if1 .taken)) (c .unselected .ensures))
 
 repeated-requires : tie.Need-repeated-requires
 repeated-requires c κs =
@@ -41,8 +41,8 @@ moved-to-front-requires c κs =
 only-echo-requires : tie.Need-only-echo-requires
 only-echo-requires c κs = tt
 
-dropped-requires-2 : tie.Need-dropped-requires-2
-dropped-requires-2 c κs = tt
+unselected-requires-2 : tie.Need-unselected-requires-2
+unselected-requires-2 c κs = tt
 
 returns-2 : tie.Need-returns-2
 unfolding viewOf
@@ -54,7 +54,7 @@ returns-2 c =
       record { pending = m .ensures .0 .pending; waiting = m .ensures .0 .waiting },
       prioritize-idle (viewOf (a .s)) (a .store .now) (a .echo) (f .ensures) (not-false (f .result .held) (c .before .before .before .before .before .before .before .if1 .left)) (c .before .before .before .before .before .before .repeated .ensures)
           (fronted-by (viewOf (a .s)) (a .echo) (f .result .place) (f .result .transfer) (c .before .before .before .before .before .before .repeated .ensures) (m .ensures .1) (c .before .before .before .only-echo .ensures))
-          (c .before .if2 .taken) (c .dropped2 .ensures),
+          (c .before .if2 .taken) (c .unselected2 .ensures),
     )
 
 choose-requires : tie.Need-choose-requires
@@ -94,12 +94,12 @@ prioritize-spec =
     tie.close
     (tie.spec
     find-requires
-    dropped-requires
+    unselected-requires
     returns
     repeated-requires
     moved-to-front-requires
     only-echo-requires
-    dropped-requires-2
+    unselected-requires-2
     returns-2
     choose-requires
     returns-3)

@@ -17,15 +17,15 @@ packed-of-requires c κs = search needs
 enum-known-verdict : tie.Need-enum-known-verdict
 enum-known-verdict c = search needs
 
-dropped-requires : tie.Need-dropped-requires
-dropped-requires c κs = tt
+unselected-requires : tie.Need-unselected-requires
+unselected-requires c κs = tt
 
 returns : tie.Need-returns
 returns c =
-    let b = c .before .before .before .before .before .before .before .before .before .before .before .before .before in
+    let b = c .before .before .before .before .before .before .before .before .before .before .before .before in
     let a = b .args in (
       b .pre .0,
-      select-refused (viewOf (a .s)) (a .x) (a .store .now) (c .before .before .before .before .before .before .before .before .front .ensures .0) (c .before .before .before .before .before .before .before .one-left .ensures) (c .before .before .before .before .before .before .packed-of .ensures) (c .before .before .verdict .given .1) (c .dropped .ensures),
+      select-refused (viewOf (a .s)) (a .x) (a .store .now) (c .before .before .before .before .before .before .before .front .ensures .0) (c .before .before .before .before .before .before .one-left .ensures) (c .before .before .before .before .before .packed-of .ensures) (c .before .before .verdict .given .1) (c .unselected .ensures),
     )
 
 enum-told : tie.Need-enum-told
@@ -37,10 +37,10 @@ number-after-requires c κs = tt
 returns-2 : tie.Need-returns-2
 unfolding viewOf
 returns-2 c =
-    let b = c .before .before .before .before .before .before .before .before .before .before .before .before .before in
+    let b = c .before .before .before .before .before .before .before .before .before .before .before .before in
     let a = b .args in (
       record { pending = b .pre .0 .pending; waiting = b .pre .0 .waiting },
-      select-made (viewOf (a .s)) (a .x) (a .store .now) (c .before .before .before .before .before .before .before .before .front .ensures .0) (c .before .before .before .before .before .before .before .one-left .ensures) (c .before .before .before .before .before .before .packed-of .ensures) (c .before .before .enum-told .given .1) (c .number-after .ensures),
+      select-made (viewOf (a .s)) (a .x) (a .store .now) (c .before .before .before .before .before .before .before .front .ensures .0) (c .before .before .before .before .before .before .one-left .ensures) (c .before .before .before .before .before .packed-of .ensures) (c .before .before .enum-told .given .1) (c .number-after .ensures),
     )
 
 pub select-spec : {M : Type 1} → statement M
@@ -51,7 +51,7 @@ select-spec =
     one-left-requires
     packed-of-requires
     enum-known-verdict
-    dropped-requires
+    unselected-requires
     returns
     enum-told
     number-after-requires

@@ -11,7 +11,7 @@ use Rattle.transfer.specs.Advance.{kept}
 use Rattle.transfer.specs.Lists.{removeAt}
 use Rattle.transfer.specs.State.{View, withTransfers, withSelected, blankTransfer}
 use Rattle.transfer.proofs.Listed.{length-removed}
-use Rattle.sender.specs.Arrays.{viewOf}
+use Rattle.sender.specs.Arrays.{selectionOf, viewOf}
 use Rattle.sender.proofs.Slots.{unmapped, live-counted}
 use Rattle.sender.proofs.submit.hand_in.Statement.{statement}
 use Rattle.sender.proofs.submit.hand_in.Tie as tie
@@ -19,8 +19,8 @@ use Rattle.sender.proofs.submit.hand_in.Tie as tie
 in-flight-requires : tie.Need-in-flight-requires
 in-flight-requires c κs = search needs
 
-dropped-requires : tie.Need-dropped-requires
-dropped-requires c κs = tt
+unselected-requires : tie.Need-unselected-requires
+unselected-requires c κs = tt
 
 cast-words : tie.Need-cast-words
 cast-words c = search needs
@@ -49,11 +49,11 @@ room c =
 
 pushed-requires : tie.Need-pushed-requires
 pushed-requires c κs =
-    let a = c .before .before .before .before .before .before .before .before .args in
+    let a = c .before .before .before .before .before .before .before .args in
     let l = viewOf (a .s) .transfers in
     let fewer : length (viewOf (c .removed .result) .transfers) ≡ length (removeAt (a .place) l) = ap (λ (v : View). length (v .transfers)) (c .removed .ensures .1) in
-    let more : length l ≡ suc (length (removeAt (a .place) l)) = length-removed l (a .place) blankTransfer (c .before .before .before .before .before .before .before .before .pre .1) in
-    let most = room (c .before .before .before .before .before .before .before .before) in
+    let more : length l ≡ suc (length (removeAt (a .place) l)) = length-removed l (a .place) blankTransfer (c .before .before .before .before .before .before .before .pre .1) in
+    let most = room (c .before .before .before .before .before .before .before) in
     (c .removed .ensures .0, omega arith)
 
 same-length : tie.Need-same-length
@@ -62,15 +62,15 @@ same-length c = search needs
 returns : tie.Need-returns
 unfolding viewOf
 returns c =
-    let a = c .before .before .before .before .before .before .before .before .before .args in
+    let a = c .before .before .before .before .before .before .before .before .args in
     let v = viewOf (a .s) in
     let f = c .pushed .ensures .0 in (
       (
         record { pending = f .pending; waiting = f .waiting },
-        ap (λ (o : Option PreparedFrame). withSelected (viewOf (c .pushed .result)) o) (c .before .before .before .before .dropped .ensures) ∙
+        ap (λ (o : Option PreparedFrame). withSelected (viewOf (c .pushed .result)) o) (ap selectionOf (c .before .before .before .before .unselected .ensures)) ∙
             (ap (λ (u : View). withSelected u none) (c .pushed .ensures .1) ∙
-            (ap (λ (u : View). withSelected (kept u (c .before .before .before .before .before .before .in-flight .result)) none) (c .before .removed .ensures .1) ∙
-            ap (λ (y : Transfer). withSelected (kept (withTransfers v (removeAt (a .place) (v .transfers))) y) none) (c .before .before .before .before .before .before .in-flight .ensures))),
+            (ap (λ (u : View). withSelected (kept u (c .before .before .before .before .before .in-flight .result)) none) (c .before .removed .ensures .1) ∙
+            ap (λ (y : Transfer). withSelected (kept (withTransfers v (removeAt (a .place) (v .transfers))) y) none) (c .before .before .before .before .before .in-flight .ensures))),
       ),
       refl,
     )
@@ -80,7 +80,7 @@ hand-in-spec =
     tie.close
     (tie.spec
     in-flight-requires
-    dropped-requires
+    unselected-requires
     cast-words
     mul-words
     add-words
