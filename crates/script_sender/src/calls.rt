@@ -11,7 +11,6 @@ use script_transfer::operands::frame_token;
 use script_transfer::senders::selection_octets;
 use script_transfer::senders::state_sum;
 use script_transfer::values::confirmation_octets;
-use script_transfer::values::error_number;
 use sender::ConfirmationAnswer;
 use sender::EnqueueAnswer;
 use sender::FoundAnswer;
@@ -42,7 +41,7 @@ fn moved(r: Moved) -> Done
 fn found_reply(answer: FoundAnswer) -> Reply {
     match answer {
         FoundAnswer::Found(found) => replies::flag(found),
-        FoundAnswer::Refused(error) => replies::number(error_number(error)),
+        FoundAnswer::Refused(error) => replies::number(error.number()),
     }
 }
 
@@ -65,7 +64,7 @@ fn confirmation_reply(answer: ConfirmationAnswer) -> Reply {
             let octets = confirmation_octets(confirmation);
             replies::values(&octets)
         }
-        ConfirmationAnswer::Refused(error) => replies::number(error_number(error)),
+        ConfirmationAnswer::Refused(error) => replies::number(error.number()),
     }
 }
 
@@ -184,7 +183,7 @@ pub fn submitted(s: Sender, operands: [u8; 48], store: &[u8], words: &mut [u64])
 fn token_reply(answer: EnqueueAnswer) -> Reply {
     match answer {
         EnqueueAnswer::Transfer(token) => replies::eight(token.0),
-        EnqueueAnswer::Refused(error) => replies::number(error_number(error)),
+        EnqueueAnswer::Refused(error) => replies::number(error.number()),
     }
 }
 

@@ -241,7 +241,7 @@ fn open(m: Machine, operands: [u8; 48]) -> Ran
     let verdict = made.verdict;
     let sender = made.sender;
     if let Verdict::Refused(error) = verdict {
-        return closed(m, script_transfer::values::error_number(error));
+        return closed(m, error.number());
     }
     let reply = replies::number(0);
     Ran {

@@ -1,6 +1,5 @@
 // Answers: the number octet, and the values after it.
 use super::Reply;
-use script_transfer::values::error_number;
 use sender::Verdict;
 ghost use Prim.Native.Nat.{_≤_};
 ghost use lib.ListN.{length};
@@ -43,6 +42,6 @@ pub fn eight(n: u64) -> Reply {
 pub fn verdict_number(verdict: Verdict) -> u8 {
     match verdict {
         Verdict::Accepted => 0,
-        Verdict::Refused(error) => error_number(error),
+        Verdict::Refused(error) => error.number(),
     }
 }

@@ -3,23 +3,9 @@ use rach::MobileIdentity;
 use transfer::Addressee;
 use transfer::CompletionAnswer;
 use transfer::Confirmation;
-use transfer::Error;
 use transfer::Event;
 use transfer::NextEvent;
 use transfer::PreparedFrame;
-
-// Document 01's number.
-pub fn error_number(error: Error) -> u8 {
-    match error {
-        Error::Limits => 19,
-        Error::Capacity => 20,
-        Error::EchoExhausted => 21,
-        Error::Clock => 22,
-        Error::Deadline => 23,
-        Error::Stale => 24,
-        Error::Wire(wire) => wire.number(),
-    }
-}
 
 // An event as an answer has it: its error is 0 unless it failed.
 pub struct EventParts {
@@ -41,7 +27,7 @@ pub fn event_parts(event: Event) -> EventParts {
         Event::Complete(completion) => event_with(0, completion, 0),
         Event::Expired(completion) => event_with(1, completion, 0),
         Event::Cancelled(completion) => event_with(2, completion, 0),
-        Event::Failed { completion, error } => event_with(3, completion, error_number(error)),
+        Event::Failed { completion, error } => event_with(3, completion, error.number()),
     }
 }
 

@@ -8,9 +8,9 @@ use native.Mathlib.Omega.{arith}
 use borrow.Author.Tests.{lt-leb, le-leb, lt-ltb, le-ltb}
 use lib.ListN.{length, take, drop, getD}
 use Rattle.transfer.specs.declared.Event.{Event}
-use Rattle.transfer.specs.declared.NextEvent.the-variants as nexts
 use Rattle.transfer.specs.Echo.{free, freeEcho}
 use Rattle.transfer.specs.Lists.{any}
+use Rattle.transfer.specs.Numbers.{endingOf}
 use Rattle.transfer.specs.Queries.{canEnqueueOf, popFrom, popEventOf}
 use Rattle.transfer.specs.State.{Echoes, View, withEvents, says}
 use Rattle.transfer.proofs.Around.{free-now, none-free}
@@ -105,19 +105,19 @@ first-read A B f [] (suc n) d h = refl
 first-read A B f (x ∷ s) (suc n) d h = refl
 
 -- none waits
-pub pop-none : (v : View) → length (v .events) ≡ 0 → says nexts.Nothing v ≡ popEventOf v
+pub pop-none : (v : View) → length (v .events) ≡ 0 → says none v ≡ popEventOf v
 unfolding popEventOf
 pop-none v h = go (v .events) h
   where
-    go : (l : List Event) → length l ≡ 0 → says nexts.Nothing v ≡ popFrom v l
+    go : (l : List Event) → length l ≡ 0 → says none v ≡ popFrom v l
     go [] h = refl
     go (e ∷ l) h = absurd (omega arith)
 
 -- the first is taken out
-pub pop-first : (v : View) (d : Event) → 0 < length (v .events) → says (nexts.Event (getD (v .events) 0 d)) (withEvents v (drop 1 (v .events))) ≡ popEventOf v
+pub pop-first : (v : View) (d : Event) → 0 < length (v .events) → says (some (endingOf (getD (v .events) 0 d))) (withEvents v (drop 1 (v .events))) ≡ popEventOf v
 unfolding popEventOf
 pop-first v d h = go (v .events) h
   where
-    go : (l : List Event) → 0 < length l → says (nexts.Event (getD l 0 d)) (withEvents v (drop 1 l)) ≡ popFrom v l
+    go : (l : List Event) → 0 < length l → says (some (endingOf (getD l 0 d))) (withEvents v (drop 1 l)) ≡ popFrom v l
     go [] h = absurd (omega arith)
     go (e ∷ l) h = refl

@@ -21,11 +21,10 @@ use Rattle.sender.specs.declared.ConfirmationAnswer.{ConfirmationAnswer}
 use Rattle.sender.specs.declared.ConfirmationAnswer.the-variants as confirmations
 use Rattle.sender.specs.declared.Confirmed.{Confirmed}
 use Rattle.sender.specs.declared.Cancelled.{Cancelled}
-use Rattle.transfer.specs.declared.NextEvent.{NextEvent}
 use Rattle.sender.specs.declared.Popped.{Popped}
 use Rattle.transfer.specs.State.{View, Lent, Out, says}
 use Rattle.transfer.specs.Enqueue.{Grant}
-use Rattle.transfer.specs.Numbers.{refusalOf}
+use Rattle.transfer.specs.Numbers.{refusalOf, Ending, nextOf}
 use Rattle.sender.specs.declared.Selection.{Selection}
 use Rattle.sender.specs.Arrays.{viewOf, blankSelection, selectionAs}
 
@@ -99,5 +98,5 @@ abbrev pub cancelled : Cancelled → After Bool View
 cancelled r = says (r .found) (viewOf (r .sender))
 
 -- `pop_event`
-abbrev pub popped : Popped → After NextEvent View
-popped r = says (r .next) (viewOf (r .sender))
+abbrev pub popped : Popped → After (Option Ending) View
+popped r = says (nextOf (r .next)) (viewOf (r .sender))

@@ -1,15 +1,20 @@
--- Two errors of the sender that have one number are the same. Assumes nothing.
+-- Two errors of the sender that have one number are the same, and so are two events that are read alike. Assumes nothing.
 use mathlib.Core.Path.{_≡_, refl, ap}
 use mathlib.Core.Bool.{true, cond}
+use mathlib.Core.Option.{Option, none, some}
 use Prim.Native.Nat.{ℕ}
 use lib.Dec.{eqb, ltb}
 use Rattle.spach.specs.declared.SpachError.{SpachError}
 use Rattle.spach.specs.declared.SpachError.the-variants as errors
 use Rattle.spach.specs.Refusal.{numberOf}
-use Rattle.spach.proofs.Apart.{errorOf, error-number}
+use Rattle.spach.proofs.Apart.{apart, errorOf, error-number}
 use Rattle.transfer.specs.declared.Error.{Error}
 use Rattle.transfer.specs.declared.Error.the-variants.{Limits, Capacity, EchoExhausted, Clock, Deadline, Stale, Wire}
-use Rattle.transfer.specs.Numbers.{refusalOf}
+use Rattle.transfer.specs.declared.Event.{Event}
+use Rattle.transfer.specs.declared.Event.the-variants as events
+use Rattle.transfer.specs.declared.NextEvent.{NextEvent}
+use Rattle.transfer.specs.declared.NextEvent.the-variants as nexts
+use Rattle.transfer.specs.Numbers.{refusalOf, Ending, complete, expired, cancelled, failed, endingOf, nextOf}
 
 -- the error of a number
 abbrev pub refusedBy : ℕ → Error
@@ -46,3 +51,27 @@ refusal-number Clock = refl
 refusal-number Deadline = refl
 refusal-number Stale = refl
 refusal-number (Wire e) = rw (low e) (ap Wire (error-number e))
+
+-- the event of an ending
+abbrev eventOf : Ending → Event
+eventOf (complete c) = events.Complete c
+eventOf (expired c) = events.Expired c
+eventOf (cancelled c) = events.Cancelled c
+eventOf (failed c n) = events.Failed c (refusedBy n)
+
+event-ending : (e : Event) → eventOf (endingOf e) ≡ e
+event-ending (events.Complete c) = refl
+event-ending (events.Expired c) = refl
+event-ending (events.Cancelled c) = refl
+event-ending (events.Failed c e) = ap (events.Failed c) (refusal-number e)
+
+pub events-apart : (a b : NextEvent) → nextOf a ≡ nextOf b → a ≡ b
+events-apart = apart nextOf back undo
+  where
+    back : Option Ending → NextEvent
+    back none = nexts.Nothing
+    back (some x) = nexts.Event (eventOf x)
+
+    undo : (a : NextEvent) → back (nextOf a) ≡ a
+    undo nexts.Nothing = refl
+    undo (nexts.Event e) = ap nexts.Event (event-ending e)

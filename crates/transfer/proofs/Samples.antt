@@ -32,8 +32,6 @@ use Rattle.transfer.specs.declared.CompletionAnswer.{CompletionAnswer}
 use Rattle.transfer.specs.declared.CompletionAnswer.the-variants as completions
 use Rattle.transfer.specs.declared.Addressee.{Addressee}
 use Rattle.transfer.specs.declared.Addressee.the-variants as addressees
-use Rattle.transfer.specs.declared.NextEvent.{NextEvent}
-use Rattle.transfer.specs.declared.NextEvent.the-variants as nexts
 use Rattle.transfer.specs.Queue.{framesOf}
 use Rattle.transfer.specs.State.{View, Lent, Out, fresh, newOf}
 use Rattle.transfer.specs.Echo.{freeEcho}
@@ -45,7 +43,7 @@ use Rattle.transfer.specs.Submitted.{submittedAt, submittedOf, submitted
 use Rattle.transfer.specs.Status.{shown, statusAt, statusOf}
 use Rattle.transfer.specs.Cancel.{cancelOf, cancelTransactionOf, cancelAllOf}
 use Rattle.transfer.specs.Refresh.{queueWaiting, oldest, serveOldest, refreshWaitingOf}
-use Rattle.transfer.specs.Numbers.{refusalOf}
+use Rattle.transfer.specs.Numbers.{Ending, complete, expired, cancelled, failed, endingOf}
 use Rattle.transfer.specs.Queries.{canEnqueueOf, identityForEchoOf, radioActiveOf, readyOf, containsOf, popEventOf, pendingOf}
 
 -- ---- calls and answers
@@ -108,15 +106,15 @@ abbrev addressee : Addressee → Line
 addressee addressees.Nothing = nothing
 addressee (addressees.Identity i) = to i
 
-abbrev kindOf : Event → ℕ × ℕ
-kindOf (events.Complete c) = (0, c)
-kindOf (events.Expired c) = (1, c)
-kindOf (events.Cancelled c) = (2, c)
-kindOf (events.Failed c e) = (refusalOf e, c)
+abbrev kindOf : Ending → ℕ × ℕ
+kindOf (complete c) = (0, c)
+kindOf (expired c) = (1, c)
+kindOf (cancelled c) = (2, c)
+kindOf (failed c n) = (n, c)
 
-abbrev nextEvent : NextEvent → Line
-nextEvent nexts.Nothing = nothing
-nextEvent (nexts.Event e) = let k = kindOf e in event (k .0) (k .1)
+abbrev nextEvent : Option Ending → Line
+nextEvent none = nothing
+nextEvent (some e) = let k = kindOf e in event (k .0) (k .1)
 
 abbrev sinceNumber : Since → ℕ
 sinceNumber Never = 0
@@ -144,7 +142,7 @@ transferNumbers x =
 
 abbrev eventNumbers : List Event → List ℕ
 eventNumbers [] = []
-eventNumbers (e ∷ l) = let k = kindOf e in k .0 ∷ k .1 ∷ eventNumbers l
+eventNumbers (e ∷ l) = let k = kindOf (endingOf e) in k .0 ∷ k .1 ∷ eventNumbers l
 
 abbrev selectedNumbers : Option PreparedFrame → List ℕ
 selectedNumbers none = []

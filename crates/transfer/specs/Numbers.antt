@@ -1,8 +1,13 @@
--- 01's numbers for the sender's refusals. Assumes nothing.
+-- 01's numbers for the sender's refusals, and for the error of a Failed event. Believe each line. Assumes nothing.
+use mathlib.Core.Option.{Option, none, some}
 use Prim.Native.Nat.{ℕ}
 use Rattle.spach.specs.Refusal.{numberOf}
 use Rattle.transfer.specs.declared.Error.{Error}
 use Rattle.transfer.specs.declared.Error.the-variants.{Limits, Capacity, EchoExhausted, Clock, Deadline, Stale, Wire}
+use Rattle.transfer.specs.declared.Event.{Event}
+use Rattle.transfer.specs.declared.Event.the-variants as events
+use Rattle.transfer.specs.declared.NextEvent.{NextEvent}
+use Rattle.transfer.specs.declared.NextEvent.the-variants as nexts
 
 -- the sender's numbers; a Wire error keeps its own
 abbrev pub refusalOf : Error → ℕ
@@ -13,3 +18,22 @@ refusalOf Clock = 22
 refusalOf Deadline = 23
 refusalOf Stale = 24
 refusalOf (Wire e) = numberOf e
+
+-- how a transfer ended, with its completion: Complete, Expired, Cancelled, or Failed by a number
+pub data Ending : Type 0 where
+  complete : (completion : ℕ) → Ending
+  expired : (completion : ℕ) → Ending
+  cancelled : (completion : ℕ) → Ending
+  failed : (completion number : ℕ) → Ending
+
+-- an event, so read
+abbrev pub endingOf : Event → Ending
+endingOf (events.Complete c) = complete c
+endingOf (events.Expired c) = expired c
+endingOf (events.Cancelled c) = cancelled c
+endingOf (events.Failed c e) = failed c (refusalOf e)
+
+-- the answer of `pop_event`: an event, if there is one
+abbrev pub nextOf : NextEvent → Option Ending
+nextOf nexts.Nothing = none
+nextOf (nexts.Event e) = some (endingOf e)

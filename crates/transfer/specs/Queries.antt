@@ -2,6 +2,7 @@
 -- refuse. Assumes nothing.
 use mathlib.Core.Bool.{Bool, _&&_}
 use mathlib.Core.List.{List, [], _∷_}
+use mathlib.Core.Option.{Option, none, some}
 use Prim.Native.Nat.{ℕ}
 use lib.Dec.{leb, ltb}
 use lib.ListN.{length}
@@ -10,9 +11,8 @@ use Rattle.spach.specs.Refusal.{After}
 use Rattle.transfer.specs.declared.Event.{Event}
 use Rattle.transfer.specs.declared.Addressee.{Addressee}
 use Rattle.transfer.specs.declared.Addressee.the-variants as addressees
-use Rattle.transfer.specs.declared.NextEvent.{NextEvent}
-use Rattle.transfer.specs.declared.NextEvent.the-variants as nexts
 use Rattle.transfer.specs.Lists.{any}
+use Rattle.transfer.specs.Numbers.{Ending, endingOf}
 use Rattle.transfer.specs.State.{View, withEvents, says, seek, ofEcho}
 use Rattle.transfer.specs.Echo.{free}
 use Rattle.transfer.specs.Transfer.{isSet}
@@ -44,12 +44,12 @@ abbrev pub containsOf : View → MobileIdentity → Bool
 containsOf v i = any (addressed i) (v .transfers)
 
 -- the event that waits longest
-abbrev pub popFrom : View → List Event → After NextEvent View
-popFrom v [] = says nexts.Nothing v
-popFrom v (e ∷ l) = says (nexts.Event e) (withEvents v l)
+abbrev pub popFrom : View → List Event → After (Option Ending) View
+popFrom v [] = says none v
+popFrom v (e ∷ l) = says (some (endingOf e)) (withEvents v l)
 
 -- it is taken
-unfoldable pub popEventOf : View → After NextEvent View
+unfoldable pub popEventOf : View → After (Option Ending) View
 popEventOf v = popFrom v (v .events)
 
 -- how many transfers are live

@@ -11,11 +11,13 @@ pub mod store;
 use rach::MobileIdentity;
 use spach::Channel;
 use spach::SpachError;
+ghost use mathlib.Core.Path.{_≡_};
+ghost use Rattle.transfer.specs.Numbers.{refusalOf};
 
 // Tells the transfers of one sender apart, whatever echo they hold: the owner of each is a number of its counter.
 pub struct TransferToken(pub u64);
 
-// Tells the echoes apart that a transfer held one after the other.
+// Tells apart the turns of a transfer, each of which has an echo of its own.
 pub struct Generation(pub u64);
 
 // Tells the frames apart that were prepared.
@@ -36,6 +38,23 @@ pub enum Error {
     Deadline,
     Stale,
     Wire(SpachError),
+}
+
+impl Error {
+    // Document 01's number.
+    pub fn number(self) -> u8
+        ensures { λ r. ⌜ r ≡ refusalOf self ⌝ }
+    {
+        match self {
+            Error::Limits => 19,
+            Error::Capacity => 20,
+            Error::EchoExhausted => 21,
+            Error::Clock => 22,
+            Error::Deadline => 23,
+            Error::Stale => 24,
+            Error::Wire(wire) => wire.number(),
+        }
+    }
 }
 
 // How a transfer ended, with its completion number.

@@ -1,12 +1,13 @@
 -- `sender::Sender::pop_event` meets its contract. Assumes nothing.
 use mathlib.Core.Path.{_≡_, ap, _∙_}
+use mathlib.Core.Option.{some}
 use Prim.Native.Nat.{_<_}
 use native.Mathlib.Omega.{arith}
 use borrow.Author.Needs.{needs}
 use lib.ListN.{length, drop, getD}
 use Rattle.transfer.specs.declared.Event.{Event}
 use Rattle.transfer.specs.declared.Event.the-variants.{Complete}
-use Rattle.transfer.specs.declared.NextEvent.the-variants as nexts
+use Rattle.transfer.specs.Numbers.{endingOf}
 use Rattle.transfer.specs.Queries.{popEventOf}
 use Rattle.transfer.specs.State.{View, withEvents, says}
 use Rattle.transfer.proofs.Kept.{pop-event-call-kept}
@@ -24,12 +25,12 @@ waiting c = events-counted (c .args .t1) (search (needs, unmapped)) (c .pre .fit
 
 -- what is said of a sender with an event
 taken : (s : Sender) {r : View} → 0 < s .waiting → 0 < length (viewOf s .events) → r ≡ withEvents (viewOf s) (drop 1 (viewOf s .events)) →
-    says (nexts.Event (getD (s .events) 0 (record { event = Complete 0 }) .event)) r ≡ popEventOf (viewOf s)
+    says (some (endingOf (getD (s .events) 0 (record { event = Complete 0 }) .event))) r ≡ popEventOf (viewOf s)
 unfolding viewOf
 taken s some-slots some-events e =
     let v = viewOf s in
-    ap (λ (u : View). says (nexts.Event (getD (s .events) 0 (record { event = Complete 0 }) .event)) u) e ∙
-    (ap (λ (x : Event). says (nexts.Event x) (withEvents v (drop 1 (v .events)))) (first-read EventSlot Event (λ x. x .event) (s .events) (s .waiting) (record { event = Complete 0 }) some-slots) ∙
+    ap (λ (u : View). says (some (endingOf (getD (s .events) 0 (record { event = Complete 0 }) .event))) u) e ∙
+    (ap (λ (x : Event). says (some (endingOf x)) (withEvents v (drop 1 (v .events)))) (first-read EventSlot Event (λ x. x .event) (s .events) (s .waiting) (record { event = Complete 0 }) some-slots) ∙
     pop-first v (Complete 0) some-events)
 
 returns : tie.Need-returns
