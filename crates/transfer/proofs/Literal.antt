@@ -1,324 +1,211 @@
--- The steps of the Rust that the definitions leave out change nothing: `settle` before `advance`, and a second `advance` at the same clock. Assumes nothing.
-use mathlib.Core.Path.{_≡_, refl, sym, ap, subst, _∙_}
-use mathlib.Core.Logic.{⊎-elim}
-use mathlib.Core.Bool.{Bool, true, false, cond, not, _&&_, _||_, true≢false}
-use mathlib.Core.List.{List, [], _∷_, _++_, foldl, append-assoc, append-nil}
+-- The Rust's `advance` and the calls that make it, with every step as it is written, are the definitions. Assumes nothing.
+use mathlib.Core.Path.{_≡_, refl, sym, ap, ap₂, subst, _∙_}
+use mathlib.Core.Bool.{Bool, true, false, cond, _&&_, _||_, true≢false}
+use mathlib.Core.List.{List, [], _∷_, map, foldl}
 use mathlib.Core.Option.{Option, none, some}
-use Prim.Native.Nat.{ℕ, zero, suc, _+_, _-_, _/_, _%_, _^_, _≤_, _<_, min}
-use native.Mathlib.Nat.{two-pow-succ}
+use Prim.Native.Nat.{ℕ, zero, suc, _-_, _^_, _≤_, _<_}
 use native.Mathlib.Omega.{arith}
-use lib.Count.{ones, ones-step}
-use lib.Dec.{leb, ltb}
+use lib.Bits.{or-lt}
+use lib.Count.{ones}
+use lib.Dec.{ltb}
 use lib.ListN.{length, take, drop, getD, set}
-use lib.Pow.{pow-pos, pow-mono}
 use lib.Seq.{set-split}
-use borrow.Author.Tests.{eqb-true, eq-eqb, ne-eqb, le-ltb, ltb-true}
+use borrow.Author.Tests.{eqb-true, eq-eqb, le-ltb, ltb-true}
+use Rattle.token.specs.Token.{stop}
+use Rattle.rach.proofs.Laws.{both}
 use Rattle.spach.specs.Refusal.{Outcome, gives, refuses, After, onward}
 use Rattle.receiver.specs.Map.{bitOf}
 use Rattle.receiver.specs.declared.ArqStatus.{ArqStatus}
-use Rattle.receiver.proofs.Maps.{all-ones}
-use Rattle.receiver.proofs.Ways.{by-bool}
+use Rattle.receiver.proofs.Maps.{ones-all, all-ones}
+use Rattle.receiver.proofs.Ways.{both-true}
+use Rattle.transfer.specs.declared.CompletionAnswer.{CompletionAnswer}
+use Rattle.transfer.specs.declared.CompletionAnswer.the-variants as completions
 use Rattle.transfer.specs.declared.Confirmation.{Confirmation}
 use Rattle.transfer.specs.declared.Confirmation.the-variants.{NotFound, Found}
+use Rattle.transfer.specs.declared.Event.{Event}
 use Rattle.transfer.specs.declared.Event.the-variants.{Complete, Expired}
-use Rattle.transfer.specs.declared.Fate.{Fate}
 use Rattle.transfer.specs.declared.Fate.the-variants.{Ends, Restarts, Stays}
 use Rattle.transfer.specs.declared.FrameToken.{FrameToken}
-use Rattle.transfer.specs.declared.Parcel.{Parcel}
 use Rattle.transfer.specs.declared.PreparedFrame.{PreparedFrame}
-use Rattle.transfer.specs.declared.Since.{Since}
-use Rattle.transfer.specs.declared.Since.the-variants.{Never, Block}
 use Rattle.transfer.specs.declared.Transfer.{Transfer}
 use Rattle.transfer.specs.Lists.{position, removeAt}
-use Rattle.transfer.specs.Queue.{isEmpty, has, firstFrames, continuesOf, without}
-use Rattle.transfer.specs.State.{Clock, View, Lent, withClock, withTransfers, withSelected, ticked, admitted, says, seek, putAt, ofEcho, ofGeneration, blankTransfer}
-use Rattle.transfer.specs.Echo.{freeEcho}
-use Rattle.transfer.specs.Transfer.{withBlocks, isSet, orFrom, idle, lastQueued, allTransmitted, wentOut, doneOf, requeued, waits, settleOf, restartDue, begun}
-use Rattle.transfer.specs.Advance.{overdue, fateOf, kept, restart, landed, step, unasked, walk, walked}
-use Rattle.transfer.specs.Prepare.{isReady, choose, askedFor, interruptOf, repeated, onlyEcho, prioritizeAt, preparePrioritizedOf}
-use Rattle.transfer.specs.Submitted.{isOutstanding, confirmFrame, confirms, transmittedAt, transmittedOf}
+use Rattle.transfer.specs.Queue.{isEmpty, has, full}
+use Rattle.transfer.specs.State.{Limits, Echoes, Clock, View, Lent, withClock, withTransfers, withSelected, ticked, admitted, says, seek, putAt, ofEcho, ofGeneration, ended, blankTransfer}
+use Rattle.transfer.specs.Echo.{freeEcho, heldUntil}
+use Rattle.transfer.specs.Transfer.{allTransmitted, wentOut, doneOf, settleOf, restartDue}
+use Rattle.transfer.specs.Advance.{overdue, fateOf, kept, restart, landed, step, unasked, walk, walked, advanceOf}
+use Rattle.transfer.specs.Enqueue.{Grant, granted, allocated}
+use Rattle.transfer.specs.Prepare.{isReady, choose, prepareOf, askedFor, interruptOf, repeated, onlyEcho, prioritized, prioritizeAt, preparePrioritizedOf}
+use Rattle.transfer.specs.Submitted.{submittedMessageOf, isOutstanding, confirmFrame, confirms, transmittedAt, transmittedOf}
 use Rattle.transfer.specs.Status.{observes, statusAt, statusOf}
-use Rattle.transfer.specs.Literal.{advancing, transmittedLiteral, statusLiteral, preparing, preparePrioritizedLiteral, interruptLiteral}
-use Rattle.transfer.specs.Invariant.{All, all-none, all-more, SetsAgree, Sound}
+use Rattle.transfer.specs.Refresh.{queueWaiting, serveOldest, refreshWaitingOf}
+use Rattle.transfer.specs.Literal.{each, doneLiteral, settleLiteral, restarting, turn, through, loop, looping, entering, advancing, advanceLiteral, prepareLiteral, interruptLiteral, preparePrioritizedLiteral, submittedMessageLiteral, transmittedLiteral, statusLiteral, refreshWaitingLiteral}
+use Rattle.transfer.specs.Invariant.{All, SetsAgree, Live, Sound}
 use Rattle.transfer.proofs.Asked.{any-found}
-use Rattle.transfer.proofs.Bitsets.{bit-low, bit-none, bit-first, bit-next, bit-and, bit-or, bit-without, has-bit, lacks-bit}
-use Rattle.transfer.proofs.Listed.{all-map, all-head, all-tail, all-at, all-removed, all-back}
-use Rattle.transfer.proofs.Settled.{settle-busy, settle-done, settle-waits}
-use Rattle.transfer.proofs.Alive.{frames-live, idle-empty, settled-parcel, confirmed-live, observed-live}
+use Rattle.transfer.proofs.Bitsets.{has-bit, lacks-bit, bit-has, has-or}
+use Rattle.transfer.proofs.Frames.{count-continues, continues-counted}
+use Rattle.transfer.proofs.Listed.{all-map, all-head, all-tail, all-in, all-at, all-removed}
+use Rattle.transfer.proofs.Alive.{frames-live, settled-live, confirmed-live, observed-live, settled-parcel}
 use Rattle.transfer.proofs.Kept.{ticked-gives, admitted-gives, admitted-kept}
-use Rattle.transfer.proofs.Walked.{step-near, walked-near}
-use Rattle.transfer.proofs.Calls.{admitted-walked-kept, outstanding-frame}
+use Rattle.transfer.proofs.Walked.{step-near, transfersOf, unasked-all, asked-for-all, walked-near}
+use Rattle.transfer.proofs.Calls.{admitted-walked-kept, prioritized-kept, outstanding-frame}
+use Rattle.transfer.proofs.Again.{restart-same, settled-first, prioritized-walked}
 
--- ---- the Continues of n frames
+-- ---- each frame
 
--- each of the first n frames is one of them
-bit-firsts : (n k : ℕ) → k < n → bitOf (firstFrames n) k ≡ 1
-bit-firsts zero k h = absurd (omega arith)
-bit-firsts (suc n) zero h = let two : 2 ^ suc n ≡ 2 ^ n + 2 ^ n = two-pow-succ n in bit-first (firstFrames (suc n)) ∙ omega (arith, pow-pos n)
-bit-firsts (suc n) (suc k) h =
-    let two : 2 ^ suc n ≡ 2 ^ n + 2 ^ n = two-pow-succ n in
-    let half : firstFrames (suc n) / 2 ≡ firstFrames n = omega (arith, pow-pos n) in
-    bit-next (firstFrames (suc n)) k ∙ (ap (λ (q : ℕ). bitOf q k) half ∙ bit-firsts n k (omega arith))
+-- two tests that imply each other
+both-ways : (a b : Bool) → (a ≡ true → b ≡ true) → (b ≡ true → a ≡ true) → a ≡ b
+both-ways true b f g = sym (f refl)
+both-ways false true f g = absurd (true≢false (sym (g refl)))
+both-ways false false f g = refl
 
--- the later ones are its Continues
-bit-continue : (n k : ℕ) → suc k < n → bitOf (continuesOf n) (suc k) ≡ 1
-bit-continue zero k h = absurd (omega arith)
-bit-continue (suc n) k h =
-    let two : 2 ^ suc n ≡ 2 ^ n + 2 ^ n = two-pow-succ n in
-    let half : continuesOf (suc n) / 2 ≡ firstFrames n = omega (arith, pow-pos n) in
-    bit-next (continuesOf (suc n)) k ∙ (ap (λ (q : ℕ). bitOf q k) half ∙ bit-firsts n k (omega arith))
+-- where each passes, every one does
+each-one : (n : ℕ) (test : ℕ → Bool) → each n test ≡ true → (k : ℕ) → k < n → test k ≡ true
+each-one zero test h k l = absurd (omega arith)
+each-one (suc n) test h zero l = both (test 0) (each n (λ k. test (suc k))) h .0
+each-one (suc n) test h (suc k) l = each-one n (λ k. test (suc k)) (both (test 0) (each n (λ k. test (suc k))) h .1) k (omega arith)
 
--- all of them and no Begin: one fewer than n
-count-continues : (n q : ℕ) → q < 2 ^ n → 1 ≤ n → bitOf q 0 ≡ 0 → ((k : ℕ) → suc k < n → bitOf q (suc k) ≡ 1) → ones q ≡ n - 1
-count-continues zero q low h b f = absurd (omega arith)
-count-continues (suc n) q low h b f =
-    let two : 2 ^ suc n ≡ 2 ^ n + 2 ^ n = two-pow-succ n in
-    let even : q % 2 ≡ 0 = sym (bit-first q) ∙ b in
-    let rest : ones (q / 2) ≡ n = all-ones n (q / 2) (omega arith) (λ k l. sym (bit-next q k) ∙ f k (omega arith)) in
-    omega (arith, ones-step q)
+-- and where every one does, each passes
+one-each : (n : ℕ) (test : ℕ → Bool) → ((k : ℕ) → k < n → test k ≡ true) → each n test ≡ true
+one-each zero test h = refl
+one-each (suc n) test h = both-true (h 0 (omega arith)) (one-each n (λ k. test (suc k)) (λ k l. h (suc k) (omega arith)))
 
--- ---- a transfer's fate
+-- each of n frames is in a set of them exactly if as many are
+pub each-full : (n q : ℕ) → q < 2 ^ n → each n (has q) ≡ full n q
+each-full n q low =
+    both-ways (each n (has q)) (full n q) (λ h. eq-eqb (ones q) n (all-ones n q low (λ k l. has-bit q k (each-one n (has q) h k l))))
+    (λ h. one-each n (has q) (λ k l. bit-has q k (ones-all n q low (eqb-true (ones q) n h) k l)))
 
--- what it makes of the sender is read of the parcel and the generation
-landed-same : (u : View) (y x : Transfer) → y .parcel ≡ x .parcel → y .generation ≡ x .generation → (f : Fate) → landed u y f ≡ landed u x f
-landed-same u y x p g (Ends e) = rw g
-landed-same u y x p g Restarts = go (freeEcho (u .echoes) (u .clock .«last_ms»))
-  where
-    go : (o : Option ℕ) → restart u y o ≡ restart u x o
-    go none = rw (p, g)
-    go (some echo) = rw (p, g)
-landed-same u y x p g (Stays z) = refl
+-- what is tested alike
+each-alike : (n : ℕ) (p q : ℕ → Bool) → ((k : ℕ) → p k ≡ q k) → each n p ≡ each n q
+each-alike zero p q h = refl
+each-alike (suc n) p q h = ap₂ (λ (a b : Bool). a && b) (h 0) (each-alike n (λ k. p (suc k)) (λ k. q (suc k)) (λ k. h (suc k)))
 
--- ---- a transfer is settled once
+-- ---- one transfer
 
--- waiting already, it waits no later
-waits-twice : (block : ℕ) (s : Since) → orFrom block (orFrom block s) ≡ orFrom block s
-waits-twice block Never = refl
-waits-twice block (Block b) = refl
+module _ (x : Transfer) (s : SetsAgree x) where
+  -- each frame is transmitted or in flight exactly if as many went out as there are
+  each-out : each (x .parcel .frames) (λ k. has (x .sets .transmitted) k || has (x .sets .«in_flight») k) ≡ full (x .parcel .frames) (wentOut x)
+  each-out =
+      each-alike (x .parcel .frames) (λ k. has (x .sets .transmitted) k || has (x .sets .«in_flight») k) (has (wentOut x)) (λ k. sym (has-or (x .sets .transmitted) (x .sets .«in_flight») k))
+      ∙ each-full (x .parcel .frames) (wentOut x) (or-lt (x .parcel .frames) (x .sets .transmitted) (x .sets .«in_flight») (s .transmitted) (s .in-flight))
 
--- waiting is nothing to `done`
-waits-done : (block : ℕ) (x : Transfer) → doneOf (waits block x) ≡ doneOf x
-unfolding doneOf
-waits-done block x = refl
-
--- a status that is used up leaves it not done
-requeued-done : (x : Transfer) → doneOf (requeued x) ≡ false
-unfolding doneOf
-requeued-done x = refl
-
--- settled, it is done exactly if it was
-pub settled-done : (block : ℕ) (x : Transfer) → doneOf (settleOf block x) ≡ doneOf x
-unfolding settleOf
-settled-done block x = go (not (idle x)) (doneOf x) (x .sets .«received_status») refl
-  where
-    go : (b d r : Bool) → doneOf x ≡ d → doneOf (cond (b || d) x (cond r (requeued x) (waits block x))) ≡ d
-    go true d r e = e
-    go false true r e = e
-    go false false true e = requeued-done x
-    go false false false e = waits-done block x ∙ e
-
-module _ (x : Transfer) (s : SetsAgree x) (n : 1 ≤ x .parcel .frames) where
-  -- with a status, nothing in flight and no Continue left to observe it is done
-  observed-done : x .sets .«received_status» ≡ true → x .sets .«in_flight» ≡ 0 → without (continuesOf (x .parcel .frames)) (x .sets .observed) ≡ 0 → doneOf x ≡ true
-  unfolding doneOf
-  observed-done r f none-left = rw (r, eq-eqb (x .sets .«in_flight») 0 f, eq-eqb (ones (x .sets .transmitted)) count transmitted, eq-eqb (ones o) (count - 1) (count-continues count o (s .observed) n (lacks-bit o 0 (s .no-begin)) observed))
-    where
-      count : ℕ
-      count = x .parcel .frames
-
-      o : ℕ
-      o = x .sets .observed
-
-      observed : (k : ℕ) → suc k < count → bitOf o (suc k) ≡ 1
-      observed k l =
-          let z : bitOf (without (continuesOf count) o) (suc k) ≡ 0 = ap (λ (q : ℕ). bitOf q (suc k)) none-left ∙ bit-none (suc k) in
-          omega (arith, bit-without (continuesOf count) o (suc k), bit-continue count k l, bit-low o (suc k))
-
-      out : (k : ℕ) → k < count → bitOf (wentOut x) k ≡ 1
-      out zero l = has-bit (wentOut x) 0 (s .begin-first r)
-      out (suc k) l =
-          let z : min (bitOf o (suc k)) (bitOf (wentOut x) (suc k)) ≡ bitOf o (suc k) = sym (bit-and o (wentOut x) (suc k)) ∙ ap (λ (q : ℕ). bitOf q (suc k)) (s .went-out) in
-          omega (arith, observed k l, bit-low (wentOut x) (suc k))
-
-      transmitted : ones (x .sets .transmitted) ≡ count
-      transmitted = all-ones count (x .sets .transmitted) (s .transmitted) (λ k l.
-          let z : bitOf (x .sets .«in_flight») k ≡ 0 = ap (λ (q : ℕ). bitOf q k) f ∙ bit-none k in
-          omega (arith, out k l, bit-or (x .sets .transmitted) (x .sets .«in_flight») k))
-
-  -- so when it is not, some Continue is queued again
-  requeued-busy : idle x ≡ true → doneOf x ≡ false → x .sets .«received_status» ≡ true → idle (requeued x) ≡ false
-  requeued-busy i d r =
-      ⊎-elim
-      (λ e. absurd (true≢false (sym (observed-done r (idle-empty x i .1) (eqb-true (without (continuesOf (x .parcel .frames)) (x .sets .observed)) 0 e)) ∙ d)))
-      (λ e. ap (λ (b : Bool). b && isEmpty (x .sets .«in_flight»)) e)
-      (by-bool (isEmpty (without (continuesOf (x .parcel .frames)) (x .sets .observed))))
-
-  -- settled twice is settled once
-  pub settled-twice : (block : ℕ) → settleOf block (settleOf block x) ≡ settleOf block x
-  unfolding settleOf
-  settled-twice block = go (idle x) (doneOf x) (x .sets .«received_status») refl refl refl
-    where
-      go : (i d r : Bool) → idle x ≡ i → doneOf x ≡ d → x .sets .«received_status» ≡ r → let y = cond (not i || d) x (cond r (requeued x) (waits block x)) in settleOf block y ≡ y
-      go false d r e f g = sym (settle-busy block x (sym e) refl)
-      go true true r e f g = sym (settle-done block x (sym e) refl (sym f) refl)
-      go true false true e f g = sym (settle-busy block (requeued x) (sym (requeued-busy e f g)) refl)
-      go true false false e f g =
-          let y = waits block x in
-          sym (settle-waits block y (sym e) refl (sym (waits-done block x ∙ f)) refl g)
-          ∙ ap (λ (t : Since). withBlocks x (record { «last_progress» = x .blocks .«last_progress»; «last_frame» = x .blocks .«last_frame»; «waiting_since» = t })) (waits-twice block (x .blocks .«waiting_since»))
-
-  -- ---- `settle` before `advance`
-
-  -- settled, its fate is the same
-  pub settled-fate : (c : Clock) (asked : Bool) → fateOf c asked (settleOf (c .«last_block») x) ≡ fateOf c asked x
-  unfolding fateOf
-  settled-fate c asked = rw (settled-twice (c .«last_block»), settled-done (c .«last_block») x, settled-parcel (c .«last_block») x .0)
-
-  -- so is what its step makes of the sender
-  settled-step : (u : View) (asked : Bool) → step u (asked, settleOf (u .clock .«last_block») x) ≡ step u (asked, x)
-  unfolding step
-  settled-step u asked =
-      let p = settled-parcel (u .clock .«last_block») x in
-      landed-same u (settleOf (u .clock .«last_block») x) x (p .0) (p .1) (fateOf (u .clock) asked (settleOf (u .clock .«last_block») x)) ∙ ap (landed u x) (settled-fate (u .clock) asked)
-
-  -- and the walk over it and others
-  settled-steps : (a rest : List Transfer) (u : View) (block : ℕ) → u .clock .«last_block» ≡ block → foldl step u (unasked (a ++ settleOf block x ∷ rest)) ≡ foldl step u (unasked (a ++ x ∷ rest))
-  settled-steps [] rest u block e = ap (λ (w : View). foldl step w (unasked rest)) (subst (λ (b : ℕ). step u (false, settleOf b x) ≡ step u (false, x)) e (settled-step u false))
-  settled-steps (y ∷ a) rest u block e = settled-steps a rest (step u (false, y)) block (ap (λ (c : Clock). c .«last_block») (step-near u (false, y) .clock) ∙ e)
-
-  -- one transfer settled first, `advance` leaves the same
-  pub settled-first : (v : View) (place block : ℕ) → place < length (v .transfers) → v .clock .«last_block» ≡ block → walked (putAt v place (settleOf block x)) ≡ walked (putAt v place x)
-  unfolding walked walk
-  settled-first v place block lt e =
-      rw (set-split (v .transfers) place (settleOf block x) lt, set-split (v .transfers) place x lt)
-      (settled-steps (take place (v .transfers)) (drop (suc place) (v .transfers)) (withTransfers v []) block e)
-
--- ---- `advance` twice
-
--- a transfer that `advance` at this clock leaves as it is
-pub record Rests (c : Clock) (x : Transfer) : Type 0 where
-  pub in-time : overdue c x ≡ false
-  pub not-done : doneOf x ≡ false
-  pub settled : settleOf (c .«last_block») x ≡ x
-  pub not-due : restartDue (c .«last_block») x ≡ false
-
--- its fate is to stay so
-rests-stays : (c : Clock) (x : Transfer) → Rests c x → fateOf c false x ≡ Stays x
-unfolding fateOf
-rests-stays c x h = rw (h .in-time, h .not-done, h .settled, h .not-due)
-
--- it stays so with its last frame queued again
-rests-repeated : (c : Clock) (x : Transfer) → Rests c x → Rests c (repeated x)
-unfolding doneOf
-rests-repeated c x h = go (idle x && isSet (x .blocks .«last_frame»))
-  where
-    go : (b : Bool) → Rests c (cond b (lastQueued x) x)
-    go false = h
-    go true = record {
-      in-time = h .in-time;
-      not-done = h .not-done;
-      settled = sym (settle-busy (c .«last_block») (lastQueued x) (sym busy) refl);
-      not-due = h .not-due;
-    }
+  module _ (n : 1 ≤ x .parcel .frames) where
+    -- `done`, frame by frame
+    pub done-literal : doneLiteral x ≡ doneOf x
+    unfolding doneLiteral doneOf
+    done-literal = ap (λ (b : Bool). x .sets .«received_status» && (isEmpty (x .sets .«in_flight») && b)) (both-ways (has t 0 && each (count - 1) test) (allTransmitted x && full (count - 1) o) counted shown)
       where
-        k : ℕ
-        k = x .parcel .frames - 1
+        count : ℕ
+        count = x .parcel .frames
 
-        busy : idle (lastQueued x) ≡ false
-        busy = ap (λ (b : Bool). b && isEmpty (x .sets .«in_flight»)) (ne-eqb (2 ^ k) 0 (λ e. omega (arith, pow-pos k)))
+        t : ℕ
+        t = x .sets .transmitted
 
--- one that stays, settled, rests
-rests-settled : (c : Clock) (x : Transfer) → SetsAgree x → 1 ≤ x .parcel .frames → overdue c x ≡ false → doneOf x ≡ false → restartDue (c .«last_block») (settleOf (c .«last_block») x) ≡ false → Rests c (settleOf (c .«last_block») x)
-rests-settled c x s n o d r = record {
-  in-time = ap (λ (p : Parcel). leb (p .«deadline_ms») (c .«last_ms»)) (settled-parcel (c .«last_block») x .0) ∙ o;
-  not-done = settled-done (c .«last_block») x ∙ d;
-  settled = settled-twice x s n (c .«last_block»);
-  not-due = r;
-}
+        o : ℕ
+        o = x .sets .observed
 
--- one that begins again rests
-rests-begun : (c : Clock) (x : Transfer) (echo generation : ℕ) → 1 ≤ x .parcel .frames → overdue c x ≡ false → Rests c (begun (x .parcel) echo generation)
-unfolding doneOf
-rests-begun c x echo generation n o = record {
-  in-time = o;
-  not-done = refl;
-  settled = sym (settle-busy (c .«last_block») y (sym busy) refl);
-  not-due = refl;
-}
-  where
-    y : Transfer
-    y = begun (x .parcel) echo generation
+        test : ℕ → Bool
+        test k = has o (suc k) && has t (suc k)
 
-    busy : idle y ≡ false
-    busy = ap (λ (b : Bool). b && true) (ne-eqb (firstFrames (x .parcel .frames)) 0 (λ e. omega (arith, pow-mono {i = 1} {j = x .parcel .frames} n)))
+        counted : (has t 0 && each (count - 1) test) ≡ true → (allTransmitted x && full (count - 1) o) ≡ true
+        counted h = both-true (eq-eqb (ones t) count (all-ones count t (s .transmitted) bits)) (eq-eqb (ones o) (count - 1) (count-continues count o (s .observed) n (lacks-bit o 0 (s .no-begin)) (λ k l. has-bit o (suc k) (one k l .0))))
+          where
+            one : (k : ℕ) → suc k < count → (has o (suc k) ≡ true) × (has t (suc k) ≡ true)
+            one k l = both (has o (suc k)) (has t (suc k)) (each-one (count - 1) test (both (has t 0) (each (count - 1) test) h .1) k (omega arith))
 
--- what the walk asks of a transfer
-abbrev Agrees : Transfer → Type 0
-Agrees x = SetsAgree x × (1 ≤ x .parcel .frames)
+            bits : (k : ℕ) → k < count → bitOf t k ≡ 1
+            bits zero l = has-bit t 0 (both (has t 0) (each (count - 1) test) h .0)
+            bits (suc k) l = has-bit t (suc k) (one k l .1)
 
--- whatever goes on after a step rests
-step-rests : (u : View) (x : Transfer) → Agrees x → All (Rests (u .clock)) (u .transfers) → All (Rests (u .clock)) (step u (false, x) .transfers)
-unfolding step fateOf
-step-rests u x s h = go (overdue (u .clock) x) (doneOf x) (restartDue b (settleOf b x)) refl refl refl
+        shown : (allTransmitted x && full (count - 1) o) ≡ true → (has t 0 && each (count - 1) test) ≡ true
+        shown h =
+            let p = both (allTransmitted x) (full (count - 1) o) h in
+            let sent : (k : ℕ) → k < count → has t k ≡ true = λ k l. bit-has t k (ones-all count t (s .transmitted) (eqb-true (ones t) count (p .0)) k l) in
+            both-true (sent 0 (omega arith)) (one-each (count - 1) test (λ k l. both-true (bit-has o (suc k) (continues-counted count o (s .observed) (lacks-bit o 0 (s .no-begin)) (eqb-true (ones o) (count - 1) (p .1)) k l)) (sent (suc k) (omega arith))))
+
+    -- `settle`
+    pub settle-literal : (block : ℕ) → settleLiteral block x ≡ settleOf block x
+    unfolding settleLiteral settleOf
+    settle-literal block = rw done-literal
+
+-- ---- advance
+
+-- what the loop relies on of a transfer
+record Proper (l : Limits) (c : Clock) (x : Transfer) : Type 0 where
+  sets : SetsAgree x
+  frames : 1 ≤ x .parcel .frames
+  -- the tests of `allocate_echo`
+  usable : l .«startup_until_block» ≤ c .«last_block»
+  fits : heldUntil l (x .parcel .«deadline_ms») ≤ stop
+
+-- a live one is so
+live-proper : {l : Limits} {c : Clock} {e : Echoes} {next : ℕ} (x : Transfer) → Live l c e next x → Proper l c x
+live-proper x h = record { sets = h .sets; frames = frames-live x h .0; usable = h .usable; fits = h .holds .fits }
+
+-- each of a Sound sender is
+sound-proper : (v : View) → Sound v → All (Proper (v .limits) (v .clock)) (v .transfers)
+sound-proper v h = all-map (λ x k. live-proper x k) (h .transfers)
+
+-- a restart that asks only whether an echo is free
+restarting-free : (v : View) (y x : Transfer) (later : List Transfer) (frames : ℕ) → y .parcel ≡ x .parcel → y .generation ≡ x .generation → (o : Option ℕ) → restarting v y later (granted frames o) ≡ says tt (restart v x o)
+restarting-free v y x later frames p g none = ap (says tt) (restart-same v y x p g none)
+restarting-free v y x later frames p g (some echo) = ap (says tt) (restart-same v y x p g (some echo))
+
+-- a turn is a step
+turn-steps : (v : View) (asked : Bool) (x : Transfer) (later : List Transfer) → Proper (v .limits) (v .clock) x → turn v asked x later ≡ says tt (step v (asked, x))
+unfolding turn step fateOf
+turn-steps v asked x later h =
+    rw (settle-literal x (h .sets) (h .frames) b, done-literal x (h .sets) (h .frames))
+    (go (overdue (v .clock) x) (doneOf x) (asked || restartDue b y))
   where
     b : ℕ
-    b = u .clock .«last_block»
+    b = v .clock .«last_block»
 
-    again : overdue (u .clock) x ≡ false → (o : Option ℕ) → All (Rests (u .clock)) (restart u x o .transfers)
-    again q none = h
-    again q (some echo) = all-back (u .transfers) (begun (x .parcel) echo (u .«next_token»)) (rests-begun (u .clock) x echo (u .«next_token») (s .1) q) h
+    y : Transfer
+    y = settleOf b x
 
-    go : (o d r : Bool) → overdue (u .clock) x ≡ o → doneOf x ≡ d → restartDue b (settleOf b x) ≡ r
-        → All (Rests (u .clock)) (landed u x (cond o (Ends (Expired (x .parcel .completion))) (cond d (Ends (Complete (x .parcel .completion))) (cond r Restarts (Stays (settleOf b x))))) .transfers)
-    go true d r p q t = h
-    go false true r p q t = h
-    go false false true p q t = again p (freeEcho (u .echoes) (u .clock .«last_ms»))
-    go false false false p q t = all-back (u .transfers) (settleOf b x) (rests-settled (u .clock) x (s .0) (s .1) p q t) h
+    expired : Event
+    expired = Expired (x .parcel .completion)
 
--- after all steps
-steps-rest : (l : List Transfer) (u : View) → All Agrees l → All (Rests (u .clock)) (u .transfers) → All (Rests (u .clock)) (foldl step u (unasked l) .transfers)
-steps-rest [] u k h = h
-steps-rest (x ∷ l) u k h =
-    let w = step u (false, x) in
-    let e : w .clock ≡ u .clock = step-near u (false, x) .clock in
-    subst (λ (c : Clock). All (Rests c) (foldl step w (unasked l) .transfers)) e
-    (steps-rest l w (all-tail k) (subst (λ (c : Clock). All (Rests c) (w .transfers)) (sym e) (step-rests u x (all-head k) h)))
+    complete : Event
+    complete = Complete (x .parcel .completion)
 
--- every transfer rests that `advance` leaves
-pub walked-rests : (v : View) → Sound v → All (Rests (v .clock)) (walked v .transfers)
-unfolding walked walk
-walked-rests v h = steps-rest (v .transfers) (withTransfers v []) (all-map (λ x k. (k .sets, frames-live x k .0)) (h .transfers)) all-none
+    asks : Outcome Grant
+    asks = allocated (v .limits) (v .clock) (v .echoes) (y .parcel .«deadline_ms») (y .parcel .frames)
 
--- steps over transfers that rest keep each
-resting-steps : (l : List Transfer) (u : View) → All (Rests (u .clock)) l → foldl step u (unasked l) ≡ withTransfers u (u .transfers ++ l)
-unfolding step
-resting-steps [] u h = ap (withTransfers u) (sym (append-nil (u .transfers)))
-resting-steps (x ∷ l) u h =
-    ap (λ (w : View). foldl step w (unasked l)) (ap (landed u x) (rests-stays (u .clock) x (all-head h)))
-    ∙ (resting-steps l (kept u x) (all-tail h) ∙ ap (withTransfers u) (append-assoc (u .transfers) (x ∷ []) l))
+    restarts : restarting v y later asks ≡ says tt (restart v x (freeEcho (v .echoes) (v .clock .«last_ms»)))
+    restarts =
+        let p = settled-parcel b x in
+        let free = freeEcho (v .echoes) (v .clock .«last_ms») in
+        let fits : heldUntil (v .limits) (y .parcel .«deadline_ms») ≤ stop = rw (p .0) (h .fits) in
+        let passes : asks ≡ granted (y .parcel .frames) free = rw (le-ltb b (v .limits .«startup_until_block») (h .usable), le-ltb stop (heldUntil (v .limits) (y .parcel .«deadline_ms»)) fits) in
+        ap (restarting v y later) passes ∙ restarting-free v y x later (y .parcel .frames) (p .0) (p .1) free
 
--- where each rests, `advance` changes nothing
-pub resting-walked : (v : View) → All (Rests (v .clock)) (v .transfers) → walked v ≡ v
-unfolding walked walk
-resting-walked v h = resting-steps (v .transfers) (withTransfers v []) h
+    go : (o d r : Bool) → cond (o || d) (says tt (ended v x (cond o expired complete))) (cond r (restarting v y later asks) (says tt (kept v y))) ≡ says tt (landed v x (cond o (Ends expired) (cond d (Ends complete) (cond r Restarts (Stays y)))))
+    go true d r = refl
+    go false true r = refl
+    go false false true = restarts
+    go false false false = refl
 
--- `advance` twice at one clock is `advance` once
-pub walked-twice : (v : View) → Sound v → walked (walked v) ≡ walked v
-walked-twice v h = resting-walked (walked v) (subst (λ (c : Clock). All (Rests c) (walked v .transfers)) (sym (walked-near v h .clock)) (walked-rests v h))
+-- the loop is the steps
+loop-steps : (l : List (Bool × Transfer)) (v : View) → All (Proper (v .limits) (v .clock)) (transfersOf l) → loop v l ≡ says tt (foldl step v l)
+unfolding loop
+loop-steps [] v h = refl
+loop-steps (p ∷ l) v h =
+    let n = step-near v p in
+    ap (λ (a : After Unit View). through (a .outcome) (a .state) (λ w. loop w l)) (turn-steps v (p .0) (p .1) (map (λ q. q .1) l) (all-head h))
+    ∙ loop-steps l (step v p) (subst (λ (k : Limits). All (Proper k (step v p .clock)) (transfersOf l)) (sym (n .limits)) (subst (λ (c : Clock). All (Proper (v .limits) c) (transfersOf l)) (sym (n .clock)) (all-tail h)))
 
--- and so it is with a transfer moved to the front in between, its last frame queued again or not
-pub prioritized-walked : (v : View) (place : ℕ) (s : Option PreparedFrame) → Sound v → place < length (walked v .transfers) → let x = getD (walked v .transfers) place blankTransfer in
-    let w = withSelected (withTransfers (walked v) (repeated x ∷ removeAt place (walked v .transfers))) s in walked w ≡ w
-prioritized-walked v place s h lt =
-    let l = walked v .transfers in
-    let x = getD l place blankTransfer in
-    let w = withSelected (withTransfers (walked v) (repeated x ∷ removeAt place l)) s in
-    let r = walked-rests v h in
-    resting-walked w
-    (subst (λ (c : Clock). All (Rests c) (repeated x ∷ removeAt place l)) (sym (walked-near v h .clock))
-    (all-more (rests-repeated (v .clock) x (all-at l place blankTransfer lt r)) (all-removed l place blankTransfer lt r)))
+-- so it walks, whichever are marked
+looping-walks : {A : Type 0} (v : View) (l : List (Bool × Transfer)) (next : View → After A View) → All (Proper (v .limits) (v .clock)) (transfersOf l) → looping v l next ≡ next (walk v l)
+unfolding walk
+looping-walks v l next h = ap (λ (a : After Unit View). through (a .outcome) (a .state) next) (loop-steps l (withTransfers v []) h)
 
--- ---- the calls
+-- with none marked
+unmarked-walks : {A : Type 0} (v : View) (next : View → After A View) → All (Proper (v .limits) (v .clock)) (v .transfers) → looping v (unasked (v .transfers)) next ≡ next (walked v)
+unfolding walked
+unmarked-walks v next h = looping-walks v (unasked (v .transfers)) next (subst (All (Proper (v .limits) (v .clock))) (sym (unasked-all (v .transfers))) h)
 
 -- a clock
 abbrev at : (block now : ℕ) → Clock
@@ -333,8 +220,24 @@ ticked-same v block now e =
     (ap (λ (c : Clock). gives (withClock v c)) (sym e))
 
 -- so `advance` inside a call walks
-advancing-walks : {A : Type 0} (v : View) (block now : ℕ) (next : View → After A View) → v .clock ≡ at block now → advancing v block now next ≡ next (walked v)
-advancing-walks v block now next e = ap (λ (o : Outcome View). onward v o (λ w. next (walked w))) (ticked-same v block now e)
+advancing-walks : {A : Type 0} (v : View) (block now : ℕ) (next : View → After A View) → v .clock ≡ at block now → All (Proper (v .limits) (v .clock)) (v .transfers) → advancing v block now next ≡ next (walked v)
+advancing-walks v block now next e h = ap (λ (o : Outcome View). onward v o (λ w. looping w (unasked (w .transfers)) next)) (ticked-same v block now e) ∙ unmarked-walks v next h
+
+-- a transfer settled first or not
+settled-advancing : {A : Type 0} (v : View) (place : ℕ) (x : Transfer) (block now : ℕ) (next : View → After A View) → v .clock ≡ at block now → place < length (v .transfers) → Live (v .limits) (v .clock) (v .echoes) (v .«next_token») x → Sound v
+    → advancing (putAt v place (settleLiteral block x)) block now next ≡ next (walked (putAt v place x))
+settled-advancing v place x block now next e lt k h =
+    let b : v .clock .«last_block» ≡ block = ap (λ (c : Clock). c .«last_block») e in
+    let n = frames-live x k .0 in
+    let l = v .transfers in
+    let y = settleOf block x in
+    let p : Proper (v .limits) (v .clock) y = subst (λ (i : ℕ). Proper (v .limits) (v .clock) (settleOf i x)) b (live-proper (settleOf (v .clock .«last_block») x) (settled-live x k)) in
+    ap (λ (z : Transfer). advancing (putAt v place z) block now next) (settle-literal x (k .sets) n block)
+    ∙ (advancing-walks (putAt v place y) block now next e
+    (subst (All (Proper (v .limits) (v .clock))) (sym (set-split l place y lt)) (all-in (take place l) y (drop (suc place) l) p (all-removed l place blankTransfer lt (sound-proper v h))))
+    ∙ ap next (settled-first x (k .sets) n v place block lt b))
+
+-- ---- calls alike
 
 -- what is let through has the clock that it was told
 admitted-at : (v : View) (m : Lent) (block now : ℕ) {w : View} → admitted v m block now ≡ gives w → w .clock ≡ at block now
@@ -354,75 +257,36 @@ onward-same : {A S : Type 0} (s : S) (o : Outcome S) (f g : S → After A S) →
 onward-same s (gives t) f g h = h t refl
 onward-same s (refuses n) f g h = refl
 
--- searches where what is found is tested, and goes on alike
-seek-same : {X : Type 0} (test : Transfer → Bool) (l : List Transfer) (nothing : X) (t : Transfer → Bool) (f g other : ℕ → Transfer → X)
-    → ((i : ℕ) → i < length l → let x = getD l i blankTransfer in t x ≡ true → f i x ≡ g i x)
-    → seek test l nothing (λ i x. cond (t x) (f i x) (other i x)) ≡ seek test l nothing (λ i x. cond (t x) (g i x) (other i x))
-seek-same test l nothing t f g other h =
+-- calls that begin with `advance`
+entering-same : {A : Type 0} (v : View) (m : Lent) (block now : ℕ) (next f : View → After A View) → Sound v → ((w : View) → admitted v m block now ≡ gives w → next (walked w) ≡ f (walked w))
+    → entering v m block now next ≡ onward v (admitted v m block now) (λ w. f (walked w))
+entering-same v m block now next f h k =
+    onward-same v (admitted v m block now) (λ w. looping w (unasked (w .transfers)) next) (λ w. f (walked w))
+    (λ w e. unmarked-walks w next (sound-proper w (admitted-kept v m block now e h)) ∙ k w e)
+
+-- searches that go on alike with what is found
+seek-same : {X : Type 0} (test : Transfer → Bool) (l : List Transfer) (nothing : X) (f g : ℕ → Transfer → X) → ((i : ℕ) → i < length l → f i (getD l i blankTransfer) ≡ g i (getD l i blankTransfer)) → seek test l nothing f ≡ seek test l nothing g
+seek-same test l nothing f g h =
     let i = position test l in
     let x = getD l i blankTransfer in
-    cond-same (ltb i (length l)) (cond (t x) (f i x) (other i x)) (cond (t x) (g i x) (other i x)) nothing
-    (λ e. cond-same (t x) (f i x) (g i x) (other i x) (h i (ltb-true i (length l) e)))
+    cond-same (ltb i (length l)) (f i x) (g i x) nothing (λ e. h i (ltb-true i (length l) e))
 
--- `transmitted`: its `settle` changes nothing
-pub transmitted-literal : (v : View) (m : Lent) (t : FrameToken) (block now : ℕ) → Sound v → transmittedLiteral v m t block now ≡ transmittedOf v m t block now
-unfolding transmittedLiteral transmittedOf transmittedAt
-transmitted-literal v m t block now h =
-    onward-same v (admitted v m block now) _ _ (λ w e. seek-same (ofGeneration (t .generation)) (w .transfers) (says NotFound w) (isOutstanding t (m .words)) (found w) (confirms w t) (λ place x. says NotFound w) (same w e))
-  where
-    y : Transfer → Transfer
-    y x = confirmFrame (t .frame) x
+-- ---- the calls
 
-    found : View → ℕ → Transfer → After Confirmation View
-    found w place x = advancing (putAt w place (settleOf block (y x))) block now (says (Found (allTransmitted (y x))))
+-- `advance`
+pub advance-literal : (v : View) (m : Lent) (block now : ℕ) → Sound v → advanceLiteral v m block now ≡ advanceOf v m block now
+unfolding advanceLiteral advanceOf
+advance-literal v m block now h = entering-same v m block now (says tt) (says tt) h (λ w e. refl)
 
-    same : (w : View) → admitted v m block now ≡ gives w → (i : ℕ) → i < length (w .transfers) → let x = getD (w .transfers) i blankTransfer in isOutstanding t (m .words) x ≡ true → found w i x ≡ confirms w t i x
-    same w e i lt o =
-        let x = getD (w .transfers) i blankTransfer in
-        let c = admitted-at v m block now e in
-        let k = confirmed-live x (all-at (w .transfers) i blankTransfer lt (admitted-kept v m block now e h .transfers)) (t .frame) (outstanding-frame t (m .words) x o) in
-        advancing-walks (putAt w i (settleOf block (y x))) block now (says (Found (allTransmitted (y x)))) c
-        ∙ ap (says (Found (allTransmitted (y x)))) (settled-first (y x) (k .sets) (frames-live (y x) k .0) w i block lt (ap (λ (z : Clock). z .«last_block») c))
+-- `prepare`
+pub prepare-literal : (v : View) (m : Lent) (block now : ℕ) → Sound v → prepareLiteral v m block now ≡ prepareOf v m block now
+unfolding prepareLiteral prepareOf
+prepare-literal v m block now h = entering-same v m block now (λ w. choose w (m .octets)) (λ w. choose w (m .octets)) h (λ w e. refl)
 
--- `status`: its `settle` changes nothing
-pub status-literal : (v : View) (m : Lent) (s : ArqStatus) (block now : ℕ) → Sound v → statusLiteral v m s block now ≡ statusOf v m s block now
-unfolding statusLiteral statusOf statusAt
-status-literal v m s block now h =
-    onward-same v (admitted v m block now) _ _ (λ u e. let w = walked u in seek-same (ofEcho (s .«partial_echo»)) (w .transfers) (says false w) (λ x. has (wentOut x) 0) (found w) (shows w) (λ place x. says false w) (same u e))
-  where
-    y : ℕ → Transfer → Transfer
-    y b x = observes (s .«received_frames») b x
-
-    found : View → ℕ → Transfer → After Bool View
-    found w place x = advancing (putAt w place (settleOf block (y block x))) block now (says true)
-
-    shows : View → ℕ → Transfer → After Bool View
-    shows w place x = says true (walked (putAt w place (y (w .clock .«last_block») x)))
-
-    same : (u : View) → admitted v m block now ≡ gives u → (i : ℕ) → i < length (walked u .transfers) → let x = getD (walked u .transfers) i blankTransfer in has (wentOut x) 0 ≡ true → found (walked u) i x ≡ shows (walked u) i x
-    same u e i lt o =
-        let w = walked u in
-        let x = getD (w .transfers) i blankTransfer in
-        let c = walked-at v m block now e h in
-        let b : w .clock .«last_block» ≡ block = ap (λ (z : Clock). z .«last_block») c in
-        let k = observed-live x (all-at (w .transfers) i blankTransfer lt (admitted-walked-kept v m block now e h .transfers)) (s .«received_frames») o in
-        advancing-walks (putAt w i (settleOf block (y block x))) block now (says true) c
-        ∙ (ap (λ (n : ℕ). says true (walked (putAt w i (settleOf block (y n x))))) (sym b)
-        ∙ ap (says true) (settled-first (y (w .clock .«last_block») x) (k .sets) (frames-live (y (w .clock .«last_block») x) k .0) w i block lt b))
-
--- `prepare_prioritized`: its second `advance` changes nothing
-pub prepare-prioritized-literal : (v : View) (m : Lent) (echo block now : ℕ) → Sound v → preparePrioritizedLiteral v m echo block now ≡ preparePrioritizedOf v m echo block now
-unfolding preparePrioritizedLiteral preparePrioritizedOf prioritizeAt
-prepare-prioritized-literal v m echo block now h =
-    onward-same v (admitted v m block now) _ _ (λ u e.
-    let w = walked u in
-    seek-same (ofEcho echo) (w .transfers) (says none w) (λ x. isReady (repeated x)) (λ place x. preparing (z w place x) (m .octets) block now) (λ place x. choose (z w place x) (m .octets)) (λ place x. says none (z w place x))
-    (λ i lt o. let x = getD (w .transfers) i blankTransfer in
-    advancing-walks (z w i x) block now (λ r. choose r (m .octets)) (walked-at v m block now e h)
-    ∙ ap (λ (r : View). choose r (m .octets)) (prioritized-walked u i (onlyEcho echo (w .selected)) (admitted-kept v m block now e h) lt)))
-  where
-    z : View → ℕ → Transfer → View
-    z w place x = withSelected (withTransfers w (repeated x ∷ removeAt place (w .transfers))) (onlyEcho echo (w .selected))
+-- `refresh_waiting`
+pub refresh-waiting-literal : (v : View) (m : Lent) (block now : ℕ) → Sound v → refreshWaitingLiteral v m block now ≡ refreshWaitingOf v m block now
+unfolding refreshWaitingLiteral refreshWaitingOf
+refresh-waiting-literal v m block now h = let f : View → After Unit View = λ w. says tt (serveOldest (queueWaiting w)) in entering-same v m block now f f h (λ w e. refl)
 
 -- the mark on the first transfer of an echo asks for what the echo asks
 marked-asked : (echo : ℕ) (l : List Transfer) → let i = position (ofEcho echo) l in i < length l → set (unasked l) i (true, getD l i blankTransfer) ≡ askedFor echo l
@@ -438,16 +302,96 @@ marked-asked echo (x ∷ l) h = go (ofEcho echo x) h (marked-asked echo l)
     go false h f = ap (λ (m : List (Bool × Transfer)). (false, x) ∷ m) (f (omega arith))
 
 -- `interrupt`: the mark is what the definition asks for
-pub interrupt-literal : (v : View) (m : Lent) (echo block now : ℕ) → interruptLiteral v m echo block now ≡ interruptOf v m echo block now
+pub interrupt-literal : (v : View) (m : Lent) (echo block now : ℕ) → Sound v → interruptLiteral v m echo block now ≡ interruptOf v m echo block now
 unfolding interruptLiteral interruptOf
-interrupt-literal v m echo block now =
+interrupt-literal v m echo block now h =
     onward-same v (admitted v m block now) _ _ (λ w e.
     let l = w .transfers in
     let i = position (ofEcho echo) l in
     let x = getD l i blankTransfer in
-    let found = onward {A = Bool} w (ticked w block now) (λ u. says true (walk u (set (unasked (u .transfers)) i (true, x)))) in
+    let marks : View → After Bool View = λ u. looping u (set (unasked (u .transfers)) i (true, x)) (says true) in
     let asks = says true (walk w (askedFor echo l)) in
-    cond-same (ltb i (length l)) found asks (says false w) (λ o.
-    ap (λ (z : Outcome View). onward {A = Bool} w z (λ u. says true (walk u (set (unasked (u .transfers)) i (true, x))))) (ticked-same w block now (admitted-at v m block now e))
-    ∙ ap (λ (z : List (Bool × Transfer)). says true (walk w z)) (marked-asked echo l (ltb-true i (length l) o)))
+    cond-same (ltb i (length l)) (onward w (ticked w block now) marks) asks (says false w) (λ o.
+    ap (λ (z : Outcome View). onward w z marks) (ticked-same w block now (admitted-at v m block now e))
+    ∙ (ap (λ (z : List (Bool × Transfer)). looping w z (says true)) (marked-asked echo l (ltb-true i (length l) o))
+    ∙ looping-walks w (askedFor echo l) (says true) (subst (All (Proper (w .limits) (w .clock))) (sym (asked-for-all echo l)) (sound-proper w (admitted-kept v m block now e h)))))
     ∙ ap (λ (z : Bool). cond z asks (says false w)) (sym (any-found (ofEcho echo) l)))
+
+-- `prepare_prioritized`: its second `advance` changes nothing
+pub prepare-prioritized-literal : (v : View) (m : Lent) (echo block now : ℕ) → Sound v → preparePrioritizedLiteral v m echo block now ≡ preparePrioritizedOf v m echo block now
+unfolding preparePrioritizedLiteral preparePrioritizedOf prioritizeAt
+prepare-prioritized-literal v m echo block now h =
+    entering-same v m block now (λ w. seek (ofEcho echo) (w .transfers) (says none w) (found w)) (λ w. seek (ofEcho echo) (w .transfers) (says none w) (prioritized w (m .octets) echo)) h
+    (λ u e. let w = walked u in seek-same (ofEcho echo) (w .transfers) (says none w) (found w) (prioritized w (m .octets) echo) (same u e))
+  where
+    first : View → ℕ → Transfer → View
+    first w place x = withSelected (withTransfers w (repeated x ∷ removeAt place (w .transfers))) (onlyEcho echo (w .selected))
+
+    found : View → ℕ → Transfer → After (Option PreparedFrame) View
+    found w place x = cond (isReady (repeated x)) (advancing (first w place x) block now (λ u. choose u (m .octets))) (says none (first w place x))
+
+    same : (u : View) → admitted v m block now ≡ gives u → (i : ℕ) → i < length (walked u .transfers) → let x = getD (walked u .transfers) i blankTransfer in found (walked u) i x ≡ prioritized (walked u) (m .octets) echo i x
+    same u e i lt =
+        let w = walked u in
+        let x = getD (w .transfers) i blankTransfer in
+        let z = first w i x in
+        cond-same (isReady (repeated x)) (advancing z block now (λ u. choose u (m .octets))) (choose z (m .octets)) (says none z) (λ o.
+        advancing-walks z block now (λ u. choose u (m .octets)) (walked-at v m block now e h) (sound-proper z (prioritized-kept w i echo x lt refl (admitted-walked-kept v m block now e h)))
+        ∙ ap (λ (r : View). choose r (m .octets)) (prioritized-walked u i (onlyEcho echo (w .selected)) (admitted-kept v m block now e h) lt))
+
+-- `submitted_message`
+pub submitted-message-literal : (v : View) (t : FrameToken) → Sound v → submittedMessageLiteral v t ≡ submittedMessageOf v t
+unfolding submittedMessageLiteral submittedMessageOf
+submitted-message-literal v t h =
+    seek-same (ofGeneration (t .generation)) (v .transfers) completions.Nothing (λ place x. answer x (each (x .parcel .frames) (λ k. has (x .sets .transmitted) k || has (x .sets .«in_flight») k))) (λ place x. answer x (full (x .parcel .frames) (wentOut x)))
+    (λ i lt. let x = getD (v .transfers) i blankTransfer in ap (answer x) (each-out x (all-at (v .transfers) i blankTransfer lt (h .transfers) .sets)))
+  where
+    answer : Transfer → Bool → CompletionAnswer
+    answer x b = cond b (completions.Completion (x .parcel .completion)) completions.Nothing
+
+-- `transmitted`: its `settle` changes nothing
+pub transmitted-literal : (v : View) (m : Lent) (t : FrameToken) (block now : ℕ) → Sound v → transmittedLiteral v m t block now ≡ transmittedOf v m t block now
+unfolding transmittedLiteral transmittedOf transmittedAt
+transmitted-literal v m t block now h =
+    onward-same v (admitted v m block now) _ _ (λ w e. seek-same (ofGeneration (t .generation)) (w .transfers) (says NotFound w) (found w) (λ place x. cond (isOutstanding t (m .words) x) (confirms w t place x) (says NotFound w)) (same w e))
+  where
+    found : View → ℕ → Transfer → After Confirmation View
+    found w place x =
+        let y = confirmFrame (t .frame) x in
+        cond (isOutstanding t (m .words) x) (advancing (putAt w place (settleLiteral block y)) block now (says (Found (each (y .parcel .frames) (has (y .sets .transmitted)))))) (says NotFound w)
+
+    same : (w : View) → admitted v m block now ≡ gives w → (i : ℕ) → i < length (w .transfers) → let x = getD (w .transfers) i blankTransfer in found w i x ≡ cond (isOutstanding t (m .words) x) (confirms w t i x) (says NotFound w)
+    same w e i lt =
+        let x = getD (w .transfers) i blankTransfer in
+        let y = confirmFrame (t .frame) x in
+        let sound = admitted-kept v m block now e h in
+        cond-same (isOutstanding t (m .words) x) (advancing (putAt w i (settleLiteral block y)) block now (says (Found (each (y .parcel .frames) (has (y .sets .transmitted)))))) (confirms w t i x) (says NotFound w) (λ o.
+        let k = confirmed-live x (all-at (w .transfers) i blankTransfer lt (sound .transfers)) (t .frame) (outstanding-frame t (m .words) x o) in
+        settled-advancing w i y block now (says (Found (each (y .parcel .frames) (has (y .sets .transmitted))))) (admitted-at v m block now e) lt k sound
+        ∙ ap (λ (b : Bool). says (Found b) (walked (putAt w i y))) (each-full (y .parcel .frames) (y .sets .transmitted) (k .sets .transmitted)))
+
+-- `status`: its `settle` changes nothing
+pub status-literal : (v : View) (m : Lent) (s : ArqStatus) (block now : ℕ) → Sound v → statusLiteral v m s block now ≡ statusOf v m s block now
+unfolding statusLiteral statusOf statusAt
+status-literal v m s block now h =
+    entering-same v m block now (λ w. seek (ofEcho (s .«partial_echo»)) (w .transfers) (says false w) (found w)) (λ w. seek (ofEcho (s .«partial_echo»)) (w .transfers) (says false w) (shows w)) h
+    (λ u e. let w = walked u in seek-same (ofEcho (s .«partial_echo»)) (w .transfers) (says false w) (found w) (shows w) (same u e))
+  where
+    found : View → ℕ → Transfer → After Bool View
+    found w place x = cond (has (wentOut x) 0) (advancing (putAt w place (settleLiteral block (observes (s .«received_frames») block x))) block now (says true)) (says false w)
+
+    shows : View → ℕ → Transfer → After Bool View
+    shows w place x = cond (has (wentOut x) 0) (says true (walked (putAt w place (observes (s .«received_frames») (w .clock .«last_block») x)))) (says false w)
+
+    same : (u : View) → admitted v m block now ≡ gives u → (i : ℕ) → i < length (walked u .transfers) → let x = getD (walked u .transfers) i blankTransfer in found (walked u) i x ≡ shows (walked u) i x
+    same u e i lt =
+        let w = walked u in
+        let x = getD (w .transfers) i blankTransfer in
+        let c = walked-at v m block now e h in
+        let sound = admitted-walked-kept v m block now e h in
+        let y : ℕ → Transfer = λ n. observes (s .«received_frames») n x in
+        let b : w .clock .«last_block» ≡ block = ap (λ (z : Clock). z .«last_block») c in
+        cond-same (has (wentOut x) 0) (advancing (putAt w i (settleLiteral block (y block))) block now (says true)) (says true (walked (putAt w i (y (w .clock .«last_block»))))) (says false w) (λ o.
+        let k = observed-live x (all-at (w .transfers) i blankTransfer lt (sound .transfers)) (s .«received_frames») o in
+        settled-advancing w i (y block) block now (says true) c lt (subst (λ (n : ℕ). Live (w .limits) (w .clock) (w .echoes) (w .«next_token») (y n)) b k) sound
+        ∙ ap (λ (n : ℕ). says true (walked (putAt w i (y n)))) (sym b))
