@@ -1,23 +1,25 @@
 -- The Rust's `advance` and the calls that make it, with every step as it is written, are the definitions. Assumes nothing.
+use mathlib.Core.Logic.{⊎-elim}
 use mathlib.Core.Path.{_≡_, refl, sym, ap, ap₂, subst, _∙_}
-use mathlib.Core.Bool.{Bool, true, false, cond, _&&_, _||_, true≢false}
+use mathlib.Core.Bool.{Bool, true, false, cond, not, _&&_, _||_, true≢false, or-false, and-false}
 use mathlib.Core.List.{List, [], _∷_, map, foldl}
 use mathlib.Core.Option.{Option, none, some}
-use Prim.Native.Nat.{ℕ, zero, suc, _-_, _^_, _≤_, _<_}
+use Prim.Native.Nat.{ℕ, zero, suc, _+_, _-_, _/_, _%_, _^_, _≤_, _<_}
 use native.Mathlib.Omega.{arith}
-use lib.Bits.{or-lt}
+use lib.Bits.{bitAnd, bitOr, or-lt}
 use lib.Count.{ones}
-use lib.Dec.{ltb}
+use lib.Dec.{eqb, ltb}
 use lib.ListN.{length, take, drop, getD, set}
+use lib.Pow.{field, mod-mod-pow}
 use lib.Seq.{set-split}
-use borrow.Author.Tests.{eqb-true, eq-eqb, le-ltb, ltb-true}
+use borrow.Author.Tests.{eqb-true, eq-eqb, ne-eqb, le-ltb, ltb-true, ltb-false}
 use Rattle.token.specs.Token.{stop}
 use Rattle.rach.proofs.Laws.{both}
 use Rattle.spach.specs.Refusal.{Outcome, gives, refuses, After, onward}
-use Rattle.receiver.specs.Map.{bitOf}
+use Rattle.receiver.specs.Map.{bitOf, withBit}
 use Rattle.receiver.specs.declared.ArqStatus.{ArqStatus}
-use Rattle.receiver.proofs.Maps.{ones-all, all-ones}
-use Rattle.receiver.proofs.Ways.{both-true}
+use Rattle.receiver.proofs.Maps.{compared, ones-all, all-ones}
+use Rattle.receiver.proofs.Ways.{by-bool, both-true}
 use Rattle.transfer.specs.declared.CompletionAnswer.{CompletionAnswer}
 use Rattle.transfer.specs.declared.CompletionAnswer.the-variants as completions
 use Rattle.transfer.specs.declared.Confirmation.{Confirmation}
@@ -27,6 +29,7 @@ use Rattle.transfer.specs.declared.Event.the-variants.{Complete, Expired
 use Rattle.transfer.specs.declared.Fate.the-variants.{Ends, Restarts, Stays}
 use Rattle.transfer.specs.declared.FrameToken.{FrameToken}
 use Rattle.transfer.specs.declared.PreparedFrame.{PreparedFrame}
+use Rattle.transfer.specs.declared.Since.the-variants.{Never, Block}
 use Rattle.transfer.specs.declared.Transfer.{Transfer}
 use Rattle.transfer.specs.Lists.{position, removeAt}
 use Rattle.transfer.specs.Queue.{isEmpty, has, full}
@@ -37,15 +40,15 @@ use Rattle.transfer.specs.Advance.{overdue, fateOf, kept, restart, lande
 use Rattle.transfer.specs.Enqueue.{Grant, granted, allocated}
 use Rattle.transfer.specs.Prepare.{isReady, choose, prepareOf, askedFor, interruptOf, repeated, onlyEcho, prioritized, prioritizeAt, preparePrioritizedOf}
 use Rattle.transfer.specs.Submitted.{submittedMessageOf, isOutstanding, confirmFrame, confirms, transmittedAt, transmittedOf}
-use Rattle.transfer.specs.Status.{observes, statusAt, statusOf}
+use Rattle.transfer.specs.Status.{shown, observes, statusAt, statusOf}
 use Rattle.transfer.specs.Refresh.{queueWaiting, serveOldest, refreshWaitingOf}
-use Rattle.transfer.specs.Literal.{each, doneLiteral, settleLiteral, restarting, turn, through, loop, looping, entering, advancing, advanceLiteral, prepareLiteral, interruptLiteral, preparePrioritizedLiteral, submittedMessageLiteral, transmittedLiteral, statusLiteral, refreshWaitingLiteral}
+use Rattle.transfer.specs.Literal.{each, doneLiteral, settleLiteral, setWhere, observesLiteral, restarting, turn, through, loop, looping, entering, advancing, advanceLiteral, prepareLiteral, interruptLiteral, preparePrioritizedLiteral, submittedMessageLiteral, transmittedLiteral, statusLiteral, refreshWaitingLiteral}
 use Rattle.transfer.specs.Invariant.{All, SetsAgree, Live, Sound}
 use Rattle.transfer.proofs.Asked.{any-found}
-use Rattle.transfer.proofs.Bitsets.{has-bit, lacks-bit, bit-has, has-or}
+use Rattle.transfer.proofs.Bitsets.{bit-first, bit-next, below-bits, has-bit, lacks-bit, bit-has, bit-lacks, has-or, has-and, has-added, same-frames}
 use Rattle.transfer.proofs.Frames.{count-continues, continues-counted}
 use Rattle.transfer.proofs.Listed.{all-map, all-head, all-tail, all-in, all-at, all-removed}
-use Rattle.transfer.proofs.Alive.{frames-live, settled-live, confirmed-live, observed-live, settled-parcel}
+use Rattle.transfer.proofs.Alive.{altered, frames-live, settled-live, confirmed-live, observed-live, settled-parcel}
 use Rattle.transfer.proofs.Kept.{ticked-gives, admitted-gives, admitted-kept}
 use Rattle.transfer.proofs.Walked.{step-near, transfersOf, unasked-all, asked-for-all, walked-near}
 use Rattle.transfer.proofs.Calls.{admitted-walked-kept, prioritized-kept, outstanding-frame}
@@ -128,6 +131,89 @@ module _ (x : Transfer) (s : SetsAgree x) where
     pub settle-literal : (block : ℕ) → settleLiteral block x ≡ settleOf block x
     unfolding settleLiteral settleOf
     settle-literal block = rw done-literal
+
+-- ---- the map of a status
+
+-- the low bits are those of the number
+bit-mod : (m k n : ℕ) → k < n → bitOf (m % 2 ^ n) k ≡ bitOf m k
+bit-mod m k n h =
+    let e : n ≡ n - suc k + 1 + k = omega arith in
+    ap (λ (i : ℕ). m % 2 ^ i / 2 ^ k % 2) e ∙ (ap (λ (z : ℕ). z % 2) (field m (n - suc k + 1) k) ∙ mod-mod-pow (m / 2 ^ k) (n - suc k) 1)
+
+-- bit k of the map shows frame k + 1
+shown-has : (map k : ℕ) → k < 26 → has (shown map) (suc k) ≡ has map k
+shown-has map k h =
+    let half : shown map / 2 ≡ map % 2 ^ 26 = omega arith in
+    ap (λ (b : ℕ). eqb b 1) (bit-next (shown map) k ∙ (ap (λ (q : ℕ). bitOf q k) half ∙ bit-mod map k 26 h))
+
+-- one turn of the loop leaves every other frame
+turn-other : (b : Bool) (r n j : ℕ) → (j ≡ suc n → ⊥) → has (cond b (withBit r (suc n)) r) j ≡ has r j
+turn-other true r n j h = has-added r (suc n) j ∙ (ap (λ (b : Bool). has r j || b) (ne-eqb j (suc n) h) ∙ or-false (has r j))
+turn-other false r n j h = refl
+
+-- and sets its own if the test passes
+turn-own : (b : Bool) (r n : ℕ) → has (cond b (withBit r (suc n)) r) (suc n) ≡ (has r (suc n) || b)
+turn-own true r n = has-added r (suc n) (suc n) ∙ ap (λ (b : Bool). has r (suc n) || b) (eq-eqb (suc n) (suc n) refl)
+turn-own false r n = sym (or-false (has r (suc n)))
+
+-- the loop sets no frame but 1 to n
+where-other : (n : ℕ) (test : ℕ → Bool) (q j : ℕ) → ((i : ℕ) → i < n → j ≡ suc i → ⊥) → has (setWhere n test q) j ≡ has q j
+where-other zero test q j h = refl
+where-other (suc n) test q j h = turn-other (test n) (setWhere n test q) n j (h n (omega arith)) ∙ where-other n test q j (λ i l. h i (omega arith))
+
+-- and of these it sets each that passes
+where-passes : (n : ℕ) (test : ℕ → Bool) (q k : ℕ) → k < n → has (setWhere n test q) (suc k) ≡ (has q (suc k) || test k)
+where-passes zero test q k h = absurd (omega arith)
+where-passes (suc n) test q k h =
+    ⊎-elim (λ l. turn-other (test n) (setWhere n test q) n (suc k) (λ e. omega arith) ∙ where-passes n test q k l)
+    (⊎-elim
+    (λ e. subst (λ (j : ℕ). has (setWhere (suc n) test q) (suc j) ≡ (has q (suc j) || test j)) (sym e)
+    (turn-own (test n) (setWhere n test q) n ∙ ap (λ (b : Bool). b || test n) (where-other n test q (suc n) (λ i l z. omega arith)))) (λ l. absurd (omega arith)))
+    (compared k n)
+
+-- what `status` does to the transfer
+observes-literal : (map block : ℕ) (x : Transfer) → SetsAgree x → x .parcel .frames ≤ 27 → observesLiteral map block x ≡ observes map block x
+observes-literal map block x s most = ap seen (same-frames (setWhere n test o) (bitOr o (bitAnd (shown map) w)) frame)
+  where
+    n : ℕ
+    n = x .parcel .frames - 1
+
+    o : ℕ
+    o = x .sets .observed
+
+    w : ℕ
+    w = wentOut x
+
+    test : ℕ → Bool
+    test k = has map k && (has (x .sets .transmitted) (suc k) || has (x .sets .«in_flight») (suc k))
+
+    seen : ℕ → Transfer
+    seen q =
+        altered x (record { queue = x .sets .queue; «in_flight» = x .sets .«in_flight»; transmitted = x .sets .transmitted; observed = q; «received_status» = true })
+        (record { «last_progress» = Block block; «last_frame» = x .blocks .«last_frame»; «waiting_since» = Never })
+
+    more : (k : ℕ) → has (bitOr o (bitAnd (shown map) w)) k ≡ (has o k || (has (shown map) k && has w k))
+    more k = has-or o (bitAnd (shown map) w) k ∙ ap (λ (b : Bool). has o k || b) (has-and (shown map) w k)
+
+    low : w < 2 ^ x .parcel .frames
+    low = or-lt (x .parcel .frames) (x .sets .transmitted) (x .sets .«in_flight») (s .transmitted) (s .in-flight)
+
+    frame : (k : ℕ) → has (setWhere n test o) k ≡ has (bitOr o (bitAnd (shown map) w)) k
+    frame zero =
+        let even : has (shown map) 0 ≡ false = bit-lacks (shown map) 0 (bit-first (shown map) ∙ omega arith) in
+        where-other n test o 0 (λ i l e. omega arith) ∙ (sym (or-false (has o 0)) ∙ (ap (λ (b : Bool). has o 0 || (b && has w 0)) (sym even) ∙ sym (more 0)))
+    frame (suc k) = ⊎-elim (λ e. below (ltb-true k n e)) (λ e. above (ltb-false k n e)) (by-bool (ltb k n))
+      where
+        below : k < n → has (setWhere n test o) (suc k) ≡ has (bitOr o (bitAnd (shown map) w)) (suc k)
+        below l =
+            where-passes n test o k l
+            ∙ (ap₂ (λ (a b : Bool). has o (suc k) || (a && b)) (sym (shown-has map k (omega arith))) (sym (has-or (x .sets .transmitted) (x .sets .«in_flight») (suc k))) ∙ sym (more (suc k)))
+
+        above : n ≤ k → has (setWhere n test o) (suc k) ≡ has (bitOr o (bitAnd (shown map) w)) (suc k)
+        above l =
+            let out : has w (suc k) ≡ false = bit-lacks w (suc k) (below-bits (x .parcel .frames) w (suc k) low (omega arith)) in
+            where-other n test o (suc k) (λ i m e. omega arith)
+            ∙ (sym (or-false (has o (suc k))) ∙ (ap (λ (b : Bool). has o (suc k) || b) (sym (and-false (has (shown map) (suc k)))) ∙ (ap (λ (b : Bool). has o (suc k) || (has (shown map) (suc k) && b)) (sym out) ∙ sym (more (suc k)))))
 
 -- ---- advance
 
@@ -370,6 +456,12 @@ transmitted-literal v m t block now h =
         settled-advancing w i y block now (says (Found (each (y .parcel .frames) (has (y .sets .transmitted))))) (admitted-at v m block now e) lt k sound
         ∙ ap (λ (b : Bool). says (Found b) (walked (putAt w i y))) (each-full (y .parcel .frames) (y .sets .transmitted) (k .sets .transmitted)))
 
+-- a test the other way round
+neither-cond : {X : Type 0} (a b : Bool) (x y : X) → cond (not a && not b) y x ≡ cond (a || b) x y
+neither-cond true b x y = refl
+neither-cond false true x y = refl
+neither-cond false false x y = refl
+
 -- `status`: its `settle` changes nothing
 pub status-literal : (v : View) (m : Lent) (s : ArqStatus) (block now : ℕ) → Sound v → statusLiteral v m s block now ≡ statusOf v m s block now
 unfolding statusLiteral statusOf statusAt
@@ -377,8 +469,11 @@ status-literal v m s block now h =
     entering-same v m block now (λ w. seek (ofEcho (s .«partial_echo»)) (w .transfers) (says false w) (found w)) (λ w. seek (ofEcho (s .«partial_echo»)) (w .transfers) (says false w) (shows w)) h
     (λ u e. let w = walked u in seek-same (ofEcho (s .«partial_echo»)) (w .transfers) (says false w) (found w) (shows w) (same u e))
   where
+    goes : View → ℕ → Transfer → After Bool View
+    goes w place y = advancing (putAt w place (settleLiteral block y)) block now (says true)
+
     found : View → ℕ → Transfer → After Bool View
-    found w place x = cond (has (wentOut x) 0) (advancing (putAt w place (settleLiteral block (observes (s .«received_frames») block x))) block now (says true)) (says false w)
+    found w place x = cond (not (has (x .sets .transmitted) 0) && not (has (x .sets .«in_flight») 0)) (says false w) (goes w place (observesLiteral (s .«received_frames») block x))
 
     shows : View → ℕ → Transfer → After Bool View
     shows w place x = cond (has (wentOut x) 0) (says true (walked (putAt w place (observes (s .«received_frames») (w .clock .«last_block») x)))) (says false w)
@@ -389,9 +484,13 @@ status-literal v m s block now h =
         let x = getD (w .transfers) i blankTransfer in
         let c = walked-at v m block now e h in
         let sound = admitted-walked-kept v m block now e h in
+        let live = all-at (w .transfers) i blankTransfer lt (sound .transfers) in
         let y : ℕ → Transfer = λ n. observes (s .«received_frames») n x in
+        let z = observesLiteral (s .«received_frames») block x in
         let b : w .clock .«last_block» ≡ block = ap (λ (z : Clock). z .«last_block») c in
-        cond-same (has (wentOut x) 0) (advancing (putAt w i (settleLiteral block (y block))) block now (says true)) (says true (walked (putAt w i (y (w .clock .«last_block»))))) (says false w) (λ o.
-        let k = observed-live x (all-at (w .transfers) i blankTransfer lt (sound .transfers)) (s .«received_frames») o in
-        settled-advancing w i (y block) block now (says true) c lt (subst (λ (n : ℕ). Live (w .limits) (w .clock) (w .echoes) (w .«next_token») (y n)) b k) sound
-        ∙ ap (λ (n : ℕ). says true (walked (putAt w i (y n)))) (sym b))
+        neither-cond (has (x .sets .transmitted) 0) (has (x .sets .«in_flight») 0) (goes w i z) (says false w)
+        ∙ (ap (λ (t : Bool). cond t (goes w i z) (says false w)) (sym (has-or (x .sets .transmitted) (x .sets .«in_flight») 0))
+        ∙ cond-same (has (wentOut x) 0) (goes w i z) (says true (walked (putAt w i (y (w .clock .«last_block»))))) (says false w) (λ o.
+        ap (goes w i) (observes-literal (s .«received_frames») block x (live .sets) (frames-live x live .1))
+        ∙ (settled-advancing w i (y block) block now (says true) c lt (subst (λ (n : ℕ). Live (w .limits) (w .clock) (w .echoes) (w .«next_token») (y n)) b (observed-live x live (s .«received_frames») o)) sound
+        ∙ ap (λ (n : ℕ). says true (walked (putAt w i (y n)))) (sym b))))

@@ -3,7 +3,7 @@
 -- Status, Cancel, Refresh, Queries. In each file the call's own definition, of its name and `Of`, comes last. Numbers gives 01's
 -- numbers. Invariant says what every sender is that the calls make, History what holds over lists of calls: echoes are not taken
 -- while they are held, and every frame is one of its own order's. Believe State's records, and in each file what its first lines
--- name; the rest follows from them. Literal has the steps of the Rust that the definitions leave out, and Sought serves the code alone.
+-- name; the rest follows from them. Literal is the Rust step by step where the definitions are shorter. Sought serves the code alone.
 pub mod Lists
 pub mod Queue
 pub mod State

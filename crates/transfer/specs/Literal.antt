@@ -1,7 +1,7 @@
--- 01, module 6: the Rust's `advance` and the calls that make it, with every step as it is written. The definitions leave out steps
--- that change nothing, and count frames where the Rust looks at each. Read this file beside the Rust. Each call is proved to be the
--- definition that its contract cites, on every sender that calls make (proofs/Literal.antt), so no contract names these. The Rust's
--- `block` and `now_ms` are the clock's once `clock` has let them through. Assumes nothing.
+-- 01, module 6: the Rust's `advance` and the calls that make it, step by step as they are written; read it beside the Rust. The
+-- definitions leave out steps that change nothing, and count frames where the Rust looks at each. Every call here is proved to be
+-- the definition that its contract cites, on every sender that calls make (proofs/Literal.antt), so no contract names these. What is
+-- not the Rust's here either: sets of frames and tokens are numbers, and 16 and 18 are added. Assumes nothing.
 use mathlib.Core.Bool.{Bool, true, false, cond, not, _&&_, _||_}
 use mathlib.Core.List.{List, [], _∷_, _++_, map}
 use mathlib.Core.Option.{Option, none, some}
@@ -10,6 +10,7 @@ use lib.Dec.{eqb}
 use lib.ListN.{set}
 use Rattle.spach.specs.Refusal.{Outcome, gives, refuses, After, onward}
 use Rattle.receiver.specs.declared.ArqStatus.{ArqStatus}
+use Rattle.receiver.specs.Map.{withBit}
 use Rattle.transfer.specs.declared.CompletionAnswer.{CompletionAnswer}
 use Rattle.transfer.specs.declared.CompletionAnswer.the-variants as completions
 use Rattle.transfer.specs.declared.Confirmation.{Confirmation}
@@ -17,16 +18,16 @@ use Rattle.transfer.specs.declared.Confirmation.the-variants.{NotFound, 
 use Rattle.transfer.specs.declared.Event.the-variants.{Complete, Expired}
 use Rattle.transfer.specs.declared.FrameToken.{FrameToken}
 use Rattle.transfer.specs.declared.PreparedFrame.{PreparedFrame}
+use Rattle.transfer.specs.declared.Since.the-variants.{Never, Block}
 use Rattle.transfer.specs.declared.Transfer.{Transfer}
 use Rattle.transfer.specs.Lists.{removeAt}
 use Rattle.transfer.specs.Queue.{isEmpty, has}
 use Rattle.transfer.specs.State.{View, Lent, withTransfers, withSelected, ticked, admitted, says, seek, putAt, ofEcho, ofGeneration, ended}
-use Rattle.transfer.specs.Transfer.{idle, wentOut, requeued, waits, restartDue}
+use Rattle.transfer.specs.Transfer.{idle, requeued, waits, restartDue}
 use Rattle.transfer.specs.Advance.{overdue, kept, restart, unasked}
 use Rattle.transfer.specs.Enqueue.{Grant, allocated}
 use Rattle.transfer.specs.Prepare.{isReady, choose, repeated, onlyEcho}
 use Rattle.transfer.specs.Submitted.{isOutstanding, confirmFrame}
-use Rattle.transfer.specs.Status.{observes}
 use Rattle.transfer.specs.Refresh.{queueWaiting, serveOldest}
 
 -- ---- one transfer
@@ -50,6 +51,27 @@ settleLiteral block x =
     cond (not (idle x) || doneLiteral x) x
     (cond (x .sets .«received_status») (requeued x) (waits block x))
 
+-- the loop of `status` over the map: frames 1 to n, by the number before, are set where the test passes
+abbrev pub setWhere : (n : ℕ) → (test : ℕ → Bool) → (q : ℕ) → ℕ
+setWhere zero test q = q
+setWhere (suc n) test q = let r = setWhere n test q in cond (test n) (withBit r (suc n)) r
+
+-- what `status` does to the transfer: a Continue that the map shows is observed if it is transmitted or in flight
+abbrev pub observesLiteral : (map block : ℕ) → Transfer → Transfer
+observesLiteral map block x = record {
+  parcel = x .parcel;
+  generation = x .generation;
+  sets = record {
+    queue = x .sets .queue;
+    «in_flight» = x .sets .«in_flight»;
+    transmitted = x .sets .transmitted;
+    observed = setWhere (x .parcel .frames - 1) (λ index. has map index && (has (x .sets .transmitted) (suc index) || has (x .sets .«in_flight») (suc index))) (x .sets .observed);
+    «received_status» = true;
+  };
+  echo = x .echo;
+  blocks = record { «last_progress» = Block block; «last_frame» = x .blocks .«last_frame»; «waiting_since» = Never };
+}
+
 -- ---- advance
 
 -- a restart has asked `allocate_echo`: EchoExhausted (21) is Failed; any other refusal ends `advance`, with the transfer back at the
@@ -58,7 +80,8 @@ abbrev pub restarting : View → Transfer → (later : List Transfer) → Outcom
 restarting v x later (gives g) = says tt (restart v x (some (g .echo)))
 restarting v x later (refuses n) = cond (eqb n 21) (says tt (restart v x none)) (record { outcome = refuses n; state = withTransfers v (x ∷ later ++ v .transfers) })
 
--- one turn of the loop, for a transfer and its `restart_requested`: v has those that went on, and `later` come after it
+-- one turn of the loop, for a transfer and its `restart_requested`: v has those that went on, and `later` come after it. (`block`
+-- and `now_ms` are the clock's: `clock` has let them through.)
 unfoldable pub turn : View → (asked : Bool) → Transfer → (later : List Transfer) → After Unit View
 turn v asked x later =
     let late = overdue (v .clock) x in
@@ -137,8 +160,9 @@ unfoldable pub statusLiteral : View → Lent → ArqStatus → (block now : ℕ)
 statusLiteral v m s block now =
     entering v m block now (λ w.
     seek (ofEcho (s .«partial_echo»)) (w .transfers) (says false w) (λ place x.
-    let y = observes (s .«received_frames») block x in
-    cond (has (wentOut x) 0) (advancing (putAt w place (settleLiteral block y)) block now (says true)) (says false w)))
+    let y = observesLiteral (s .«received_frames») block x in
+    cond (not (has (x .sets .transmitted) 0) && not (has (x .sets .«in_flight») 0)) (says false w)
+    (advancing (putAt w place (settleLiteral block y)) block now (says true))))
 
 -- `refresh_waiting`
 unfoldable pub refreshWaitingLiteral : View → Lent → (block now : ℕ) → After Unit View
