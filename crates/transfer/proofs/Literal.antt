@@ -97,7 +97,7 @@ module _ (x : Transfer) (s : SetsAgree x) where
     -- `done`, frame by frame
     pub done-literal : doneLiteral x ≡ doneOf x
     unfolding doneLiteral doneOf
-    done-literal = ap (λ (b : Bool). x .sets .«received_status» && (isEmpty (x .sets .«in_flight») && b)) (both-ways (has t 0 && each (count - 1) test) (allTransmitted x && full (count - 1) o) counted shown)
+    done-literal = ap (λ (b : Bool). x .sets .«received_status» && (isEmpty (x .sets .«in_flight») && b)) (both-ways (has t 0 && each (count - 1) test) (allTransmitted x && full (count - 1) o) counted looked)
       where
         count : ℕ
         count = x .parcel .frames
@@ -121,8 +121,8 @@ module _ (x : Transfer) (s : SetsAgree x) where
             bits zero l = has-bit t 0 (both (has t 0) (each (count - 1) test) h .0)
             bits (suc k) l = has-bit t (suc k) (one k l .1)
 
-        shown : (allTransmitted x && full (count - 1) o) ≡ true → (has t 0 && each (count - 1) test) ≡ true
-        shown h =
+        looked : (allTransmitted x && full (count - 1) o) ≡ true → (has t 0 && each (count - 1) test) ≡ true
+        looked h =
             let p = both (allTransmitted x) (full (count - 1) o) h in
             let sent : (k : ℕ) → k < count → has t k ≡ true = λ k l. bit-has t k (ones-all count t (s .transmitted) (eqb-true (ones t) count (p .0)) k l) in
             both-true (sent 0 (omega arith)) (one-each (count - 1) test (λ k l. both-true (bit-has o (suc k) (continues-counted count o (s .observed) (lacks-bit o 0 (s .no-begin)) (eqb-true (ones o) (count - 1) (p .1)) k l)) (sent (suc k) (omega arith))))
