@@ -1,5 +1,5 @@
--- 01, module 6: `cancel`, `cancel_transaction` and `cancel_all`. They never refuse, and have no clock.
--- Assumes nothing.
+-- 01, module 6: `cancel`, `cancel_transaction` and `cancel_all`. They never refuse, and have no clock. Believe each: they are the
+-- Rust's lines. Assumes nothing.
 use mathlib.Core.Bool.{Bool, true, false}
 use mathlib.Core.List.{[], _++_, map}
 use mathlib.Core.Option.{none}

@@ -1,5 +1,5 @@
 -- 01, module 6: echoes are sought from `next_echo` round 0 to 127, free when held until now or earlier.
--- Believe `free` and `around`; `freeEcho` is the first that they give. Assumes nothing.
+-- Believe `free` and `around`, whose first is `freeEcho`, and `heldUntil` and `hold`: until when an echo is held. Assumes nothing.
 use mathlib.Core.Bool.{Bool, cond}
 use mathlib.Core.List.{List, _++_}
 use mathlib.Core.Option.{Option, none, some}

@@ -1,4 +1,5 @@
--- What holds over any list of calls from a fresh sender. Read `Call`, `does` and `Takes`; then the claims: `OnlyTaken`, `TakenFree`,
+-- The cell's side of the question which conditions keep a gate from its neighbour's pieces: what holds over any list of calls from a
+-- fresh sender. (The gate's side is receiver/specs/Demand3.antt; Gate.antt joins them.) Read `Call`, `does` and `Takes`; then the claims: `OnlyTaken`, `TakenFree`,
 -- `NoneBefore`, `TakenTwice` and `TakenApart` of one sender, `TwoSenders` of two, and `AcceptedOnce` and `Faithful` of the frames. They are
 -- proved in proofs/Holds.antt, Taken.antt, Once.antt and Faithful.antt; Instance.antt and Witness.antt show that they are not empty.
 -- Assumes nothing.
@@ -165,10 +166,10 @@ PastOf echo v calls time = Each (λ u c. (deadline : ℕ) → Takes u c echo dea
 abbrev pub Past : View → List Told → (time : ℕ) → Type 0
 Past v calls time = (echo : ℕ) → PastOf echo v calls time
 
--- two senders, told the time by one clock, the second perhaps in the first one's place after a power failure: if each time at
--- which the second may take an echo, its first usable block having come, is past every deadline plus guard of the first, then
--- the second takes no echo that the first still holds. (Calls that tell no time are asked too, at the clock as it stands; a first
--- usable block above 0 makes that no demand before the clock has moved)
+-- two senders, told the time by one clock that a power failure does not set back; the second may stand in the first one's place. If,
+-- at every call of the second from its first usable block on, the time is at or after deadline plus guard of every echo that the first
+-- took, then the second takes no echo that the first still holds. (A call that tells no time counts at the clock as it stands. That is
+-- block 0 before the first call with a clock, so that a first usable block above 0 leaves those out.)
 abbrev pub TwoSenders : Type 0
 TwoSenders = (v w : View) (first second : List Told) → Fresh v → Fresh w →
     Each (λ u c. w .limits .«startup_until_block» ≤ after u c .clock .«last_block» → Past v first (after u c .clock .«last_ms»)) w second →

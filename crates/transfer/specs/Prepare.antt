@@ -1,5 +1,6 @@
 -- 01, module 6: `prepare`, `interrupt` and `prepare_prioritized`, which refuse 16, 18, 22, and `has_echo`, which never does. They
--- write nothing to the lent store. Believe `packedOf`, what a frame is, and `chooseFrom`, which one it is. Assumes nothing.
+-- write nothing to the lent store. Believe `packedOf`, what a frame is, `chooseFrom`, which one it is, `askedFor`, whose restart
+-- `interrupt` asks for, and `prioritized`. Assumes nothing.
 use mathlib.Core.Bool.{Bool, true, false, cond, not, _&&_}
 use mathlib.Core.List.{List, [], _∷_}
 use mathlib.Core.Option.{Option, none, some}

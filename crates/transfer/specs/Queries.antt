@@ -1,5 +1,5 @@
 -- 01, module 6: `can_enqueue`, `identity_for_echo`, `radio_active`, `ready`, `contains`, `pop_event` and `pending`. They never
--- refuse. Assumes nothing.
+-- refuse. Believe each: they are the Rust's lines. Assumes nothing.
 use mathlib.Core.Bool.{Bool, _&&_}
 use mathlib.Core.List.{List, [], _∷_}
 use mathlib.Core.Option.{Option, none, some}

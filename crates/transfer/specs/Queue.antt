@@ -33,7 +33,7 @@ frameAlone k = 2 ^ k
 abbrev pub without : (a b : ℕ) → ℕ
 without a b = bitXor a (bitAnd a b)
 
--- the front: the lowest frame
+-- the front: the lowest frame; 32 of no frame
 abbrev pub front : (q : ℕ) → ℕ
 front q = trailingZeros 32 q
 
@@ -41,7 +41,7 @@ front q = trailingZeros 32 q
 abbrev pub oneLeft : (q : ℕ) → Bool
 oneLeft q = eqb (ones q) 1
 
--- n frames are in the set: of the n that there are, all
+-- the set has as many frames as there are, so all of them (it has no frame from n on)
 abbrev pub full : (n q : ℕ) → Bool
 full n q = eqb (ones q) n
 

@@ -34,7 +34,7 @@ abbrev pub blocksSince : (block : ℕ) → Since → ℕ
 blocksSince block Never = 0
 blocksSince block (Block b) = block - b
 
--- a ready transfer's age: blocks since its last frame was submitted
+-- a ready transfer's age: blocks since its last frame was submitted; 0 if it is not ready
 abbrev pub ageOf : (block : ℕ) → Transfer → ℕ
 ageOf block x = cond (isReady x) (blocksSince block (x .blocks .«last_frame»)) 0
 

@@ -34,7 +34,7 @@ pub record Echoes : Type 0 where
   pub «echo_until_ms» : List ℕ
   pub «next_echo» : ℕ
 
--- the block and the milliseconds that the last accepted call told
+-- the block and the milliseconds of the last clock that was accepted
 pub record Clock : Type 0 where
   pub «last_block» : ℕ
   pub «last_ms» : ℕ

@@ -1,6 +1,6 @@
 -- 01, module 6: `submitted` (16, 22, 24; an accepted clock stays moved), `submitted_message`, which never refuses, and
 -- `transmitted` (16, 18, 22).
--- Believe `inFlight` and `isOutstanding`: what is handed in, and what is found again. Assumes nothing.
+-- Believe `matches`, `inFlight` and `handedIn`: what is handed in; and `isOutstanding`: what is found again. Assumes nothing.
 use mathlib.Core.Bool.{Bool, false, cond, _&&_}
 use mathlib.Core.List.{List}
 use mathlib.Core.Option.{Option, none, some}
