@@ -9,8 +9,8 @@ use native.Mathlib.Omega.{arith}
 use lib.Dec.{eqb, ltb}
 use lib.ListN.{length, drop, getD, length-set, length-drop}
 use lib.Seq.{length-take-le}
-use borrow.Author.Tests.{eqb-true, eqb-false, eq-eqb, ne-eqb, lt-ltb, le-ltb, ltb-false, not-true}
-use Rattle.token.specs.Token.{fewerThan}
+use borrow.Author.Tests.{eqb-true, eqb-false, eq-eqb, ne-eqb, lt-ltb, le-ltb, ltb-true, ltb-false, not-true}
+use Rattle.token.specs.Token.{stop, fewerThan}
 use Rattle.rach.specs.Identity.{encodable}
 use Rattle.rach.specs.declared.MobileIdentity.{MobileIdentity}
 use Rattle.rach.proofs.Laws.{both}
@@ -37,13 +37,14 @@ use Rattle.transfer.specs.declared.PreparedFrame.{PreparedFrame}
 use Rattle.transfer.specs.Lists.{removeAt, pushBack}
 use Rattle.transfer.specs.Queue.{front, oneLeft}
 use Rattle.transfer.specs.State.{Limits, Clock, Echoes, View, Lent, Out, withClock, withTransfers, withSelected, short, ticked, admitted, says, refusal, goesOn, seek, ofGeneration, blankTransfer}
-use Rattle.transfer.specs.Echo.{freeEcho}
+use Rattle.transfer.specs.Echo.{freeEcho, heldUntil}
 use Rattle.transfer.specs.Transfer.{headerOf, messageOf, doneOf, settleOf, restartDue}
 use Rattle.transfer.specs.Advance.{overdue, fateOf, restart, landed, step, unasked, walked}
-use Rattle.transfer.specs.Enqueue.{Grant, grantOf, accepts, enqueueOf}
+use Rattle.transfer.specs.Enqueue.{Grant, granted, allocated, grantOf, accepts, enqueueOf}
 use Rattle.transfer.specs.Prepare.{isReady, packedOf, frontOf, selects, chooseFrom, choose, prepareOf, repeated, onlyEcho, prioritizeAt, preparePrioritizedOf}
 use Rattle.transfer.specs.Submitted.{isSelected, handedIn, submittedAt, submittedOf}
-use Rattle.transfer.specs.Invariant.{Some, Live, Selected, Sound}
+use Rattle.transfer.specs.Invariant.{All, Some, Live, Selected, Sound}
+use Rattle.transfer.proofs.Around.{none-free}
 use Rattle.transfer.proofs.Frames.{front-low}
 use Rattle.transfer.proofs.Listed.{all-at, some-map, some-all, some-removed, pairs-at, length-back}
 use Rattle.transfer.proofs.Kept.{different-sym, seek-cases, prioritize-cases, submit-cases, neither}
@@ -198,6 +199,25 @@ choose-never v octets room h = go (v .selected)
         let p = packed-gives (v .limits) (v .clock) (v .echoes) (v .«next_token») x octets (front (x .sets .queue)) (oneLeft (x .sets .queue)) (h .most-capacity) room k (ready-low (v .limits) (v .clock) (v .echoes) (v .«next_token») x k t) in
         selects-never v x (frontOf x octets) (p .0) (p .1))
 
+-- it has no frame exactly if none is selected and no transfer has one queued: so no sender is idle
+pub choose-none-exactly : (v : View) (octets : List ℕ) → 32640 ≤ length octets → Sound v
+    → (choose v octets .outcome ≡ gives none) ↔ ((v .selected ≡ none) × All (λ x. isReady x ≡ false) (v .transfers))
+unfolding choose
+choose-none-exactly v octets room h = go (v .selected)
+  where
+    go : (s : Option PreparedFrame) → (chooseFrom v octets s .outcome ≡ gives none) ↔ ((s ≡ none) × All (λ x. isReady x ≡ false) (v .transfers))
+    go (some f) = ((λ e. let z : _≡_ {A = ℕ} 0 1 = cc in absurd (omega arith)), (λ k. let q : some f ≡ none = k .0 in let z : _≡_ {A = ℕ} 0 1 = cc in absurd (omega arith)))
+    go none = (
+      seek-cases {X = After (Option PreparedFrame) View} (λ a. a .outcome ≡ gives none → (_≡_ {A = Option PreparedFrame} none none) × All (λ x. isReady x ≡ false) (v .transfers)) isReady (v .transfers) (says none v) (λ place x. selects v x (frontOf x octets)) (λ n e. (refl, n))
+          (λ i lt t e. let x = getD (v .transfers) i blankTransfer in
+          let k = all-at (v .transfers) i blankTransfer lt (h .transfers) in
+          let p = packed-gives (v .limits) (v .clock) (v .echoes) (v .«next_token») x octets (front (x .sets .queue)) (oneLeft (x .sets .queue)) (h .most-capacity) room k (ready-low (v .limits) (v .clock) (v .echoes) (v .«next_token») x k t) in
+          let q : selects v x (gives (p .0)) .outcome ≡ gives none = ap (λ (o : Outcome PackedFrame). selects v x o .outcome) (sym (p .1)) ∙ e in
+          let z : _≡_ {A = ℕ} 0 1 = cc in absurd (omega arith)),
+      (λ k. seek-cases {X = After (Option PreparedFrame) View} (λ a. a .outcome ≡ gives none) isReady (v .transfers) (says none v) (λ place x. selects v x (frontOf x octets)) (λ n. refl)
+          (λ i lt t. absurd (true-false t (all-at (v .transfers) i blankTransfer lt (k .1))))),
+    )
+
 -- nor with a transfer put first
 pub prioritize-never : (v : View) (octets : List ℕ) (echo : ℕ) → 32640 ≤ length octets → Sound v → (n : ℕ) → prioritizeAt v octets echo .outcome ≢ refuses n
 prioritize-never v octets echo room h =
@@ -242,12 +262,46 @@ prepare-answers v m block now n h =
     onward-answers v (admitted v m block now) (λ w. choose (walked w) (m .octets)) n (λ k e. admitted-refuses v m block now e)
     (λ w e. choose-never (walked w) (m .octets) (admitted-octets v m block now e) (admitted-walked-kept v m block now e h))
 
--- so does `prepare_prioritized`
+-- so `prepare`, at a clock that is let through, after its `advance`
+pub prepare-none-exactly : (v : View) (m : Lent) (block now : ℕ) (w : View) → Sound v → admitted v m block now ≡ gives w
+    → (prepareOf v m block now .outcome ≡ gives none) ↔ ((walked w .selected ≡ none) × All (λ x. isReady x ≡ false) (walked w .transfers))
+unfolding prepareOf
+prepare-none-exactly v m block now w h e =
+    rw (ap (λ (o : Outcome View). onward v o (λ u. choose (walked u) (m .octets)) .outcome) e)
+    (choose-none-exactly (walked w) (m .octets) (admitted-octets v m block now e) (admitted-walked-kept v m block now e h))
+
+-- `prepare_prioritized` refuses these alone, too
 pub prepare-prioritized-answers : (v : View) (m : Lent) (echo block now n : ℕ) → Sound v → preparePrioritizedOf v m echo block now .outcome ≡ refuses n → (n ≡ 16) ⊎ ((n ≡ 18) ⊎ (n ≡ 22))
 unfolding preparePrioritizedOf
 prepare-prioritized-answers v m echo block now n h =
     onward-answers v (admitted v m block now) (λ w. prioritizeAt (walked w) (m .octets) echo) n (λ k e. admitted-refuses v m block now e)
     (λ w e. prioritize-never (walked w) (m .octets) echo (admitted-octets v m block now e) (admitted-walked-kept v m block now e h))
+
+-- ---- enqueue
+
+-- `allocate_echo` gives 21 exactly before the first usable block, or if the sum fits and each of the 128 echoes is held until later
+pub allocated-21-exactly : (l : Limits) (c : Clock) (e : Echoes) (deadline frames : ℕ) → length (e .«echo_until_ms») ≡ 128 → e .«next_echo» < 128
+    → (allocated l c e deadline frames ≡ refuses 21)
+    ↔ ((c .«last_block» < l .«startup_until_block») ⊎ ((heldUntil l deadline ≤ stop) × ((k : ℕ) → k < 128 → c .«last_ms» < getD (e .«echo_until_ms») k 0)))
+allocated-21-exactly l c e deadline frames long low =
+    let exact = none-free e long low (c .«last_ms») in
+    go (ltb (c .«last_block») (l .«startup_until_block»)) (ltb stop (heldUntil l deadline)) (freeEcho e (c .«last_ms»)) refl refl refl exact
+  where
+    Late : Type 0
+    Late = (c .«last_block» < l .«startup_until_block») ⊎ ((heldUntil l deadline ≤ stop) × ((k : ℕ) → k < 128 → c .«last_ms» < getD (e .«echo_until_ms») k 0))
+
+    go : (a b : Bool) (o : Option ℕ) → ltb (c .«last_block») (l .«startup_until_block») ≡ a → ltb stop (heldUntil l deadline) ≡ b → freeEcho e (c .«last_ms») ≡ o
+        → ((freeEcho e (c .«last_ms») ≡ none) ↔ ((k : ℕ) → k < 128 → c .«last_ms» < getD (e .«echo_until_ms») k 0)) → (refuse a 21 (refuse b 23 (granted frames o)) ≡ refuses 21) ↔ Late
+    go true b o qa qb qo exact = ((λ q. inl (ltb-true (c .«last_block») (l .«startup_until_block») qa)), (λ k. refl))
+    go false true o qa qb qo exact = (
+      (λ q. let z : _≡_ {A = ℕ} 23 21 = cc in absurd (omega arith)),
+      ⊎-elim (λ lt. let r = ltb-false (c .«last_block») (l .«startup_until_block») qa in absurd (omega arith)) (λ k. let r = ltb-true stop (heldUntil l deadline) qb in let f = k .0 in absurd (omega arith)),
+    )
+    go false false none qa qb qo exact = ((λ q. inr (ltb-false stop (heldUntil l deadline) qb, exact .0 qo)), (λ k. refl))
+    go false false (some echo) qa qb qo exact = (
+      (λ q. let z : _≡_ {A = ℕ} 0 1 = cc in absurd (omega arith)),
+      ⊎-elim (λ lt. let r = ltb-false (c .«last_block») (l .«startup_until_block») qa in absurd (omega arith)) (λ k. let r : some echo ≡ none = sym qo ∙ exact .1 (k .1) in let z : _≡_ {A = ℕ} 0 1 = cc in absurd (omega arith)),
+    )
 
 -- ---- a restart that fails
 
