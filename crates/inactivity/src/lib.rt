@@ -5,7 +5,7 @@ use spach::SpachError;
 use spach::Verdict;
 ghost use mathlib.Core.Path.{_≡_};
 ghost use Prim.Native.Nat.{_≤_};
-ghost use Rattle.inactivity.specs.Inactivity.{Sound, newOf, ownsOf, renewed, put, waiting, isIdle, sentFrom, turn, acts, elapsed, admitted, resetOf, observeOf, receivedFrameOf, dueOf, advanceOf, unsolicitedAt, unsolicitedOf, solicitedAt, solicitedOf, resultAt, reported, observed, hasReset, acted, admission, refusalOf};
+ghost use Rattle.inactivity.specs.Inactivity.{Sound, newOf, ownsOf, renewed, put, waiting, isIdle, sentFrom, turn, acts, elapsed, admitted, resetOf, observeOf, receivedFrameOf, dueOf, advanceOf, unsolicitedAt, unsolicitedOf, solicitedAt, solicitedOf, resultAt, reported, observed, hasReset, acted, admission, clockNumber, refusalOf};
 ghost use Rattle.spach.specs.Refusal.{refuses};
 
 // Tells the transactions of one timer apart: a number of its counter.
@@ -26,10 +26,33 @@ pub enum InactivityError {
     ClockBackwards,
 }
 
+impl InactivityError {
+    // Document 01's number.
+    pub fn number(self) -> u8
+        ensures { λ r. ⌜ r ≡ clockNumber self ⌝ }
+    {
+        match self {
+            InactivityError::ClockBackwards => 17,
+        }
+    }
+}
+
 // Why a call of the timer or of the procedure is refused.
 pub enum ProcedureError {
     Wire(SpachError),
     Clock(InactivityError),
+}
+
+impl ProcedureError {
+    // Document 01's number.
+    pub fn number(self) -> u8
+        ensures { λ r. ⌜ r ≡ refusalOf self ⌝ }
+    {
+        match self {
+            ProcedureError::Wire(wire) => wire.number(),
+            ProcedureError::Clock(clock) => clock.number(),
+        }
+    }
 }
 
 pub enum State {

@@ -14,7 +14,7 @@ fn refuse(answers: &mut [u8], to: usize, error: ProcedureError) -> usize
     requires { ⌜ to + 1 ≤ length (now answers) ⌝ }
     ensures { λ r. ⌜ Answered 1 to r (now (answers .entry)) (now (answers .exit)) ⌝ }
 {
-    script_wire::answer(answers, to, script_inactivity::values::number_of(error))
+    script_wire::answer(answers, to, error.number())
 }
 
 // RECEIVE, with the buffer.

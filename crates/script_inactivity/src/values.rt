@@ -1,23 +1,7 @@
-// Timers, actions and refusals as values of an answer.
+// Timers and actions as values of an answer.
 use inactivity::ArqInactivity;
 use inactivity::InactivityAction;
-use inactivity::InactivityError;
-use inactivity::ProcedureError;
 use inactivity::State;
-
-// Document 01's number.
-pub fn clock_number(error: InactivityError) -> u8 {
-    match error {
-        InactivityError::ClockBackwards => 17,
-    }
-}
-
-pub fn number_of(error: ProcedureError) -> u8 {
-    match error {
-        ProcedureError::Wire(wire) => wire.number(),
-        ProcedureError::Clock(clock) => clock_number(clock),
-    }
-}
 
 pub fn action_octet(action: InactivityAction) -> u8 {
     match action {
