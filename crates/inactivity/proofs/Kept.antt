@@ -14,7 +14,7 @@ use Rattle.inactivity.specs.declared.State.{State}
 use Rattle.inactivity.specs.declared.State.the-variants.{Idle, Waiting, SendingUnsolicited, FinalWait}
 use Rattle.inactivity.specs.declared.ArqInactivity.{ArqInactivity}
 use Rattle.inactivity.proofs.Calls.{ticked-gives, admitted-gives}
-use Rattle.inactivity.specs.Inactivity.{Sound, turn, newOf, ownsOf, renewed, clocked, waiting, put, enough, ticked, admitted, acts, done, resetOf, observeOf, receivedFrameOf, due, dueOf, elapsed, advanceOf, reported, unsolicitedBy, unsolicitedAt, solicitedBy, solicitedAt, resultAt, isIdle, sentFrom}
+use Rattle.inactivity.specs.Inactivity.{Sound, turn, newOf, ownsOf, renewed, clocked, waiting, inState, enough, ticked, admitted, acts, done, resetOf, observeOf, receivedFrameOf, due, dueOf, elapsed, advanceOf, reported, unsolicitedBy, unsolicitedAt, solicitedBy, solicitedAt, resultAt, isIdle, sentFrom}
 
 -- a law of what a call leaves holds if it holds of the state as it was and of all that the call goes on to
 pub onward-keeps : {A S : Type 0} (P : S → Type 0) (s : S) (o : Outcome S) (f : S → After A S) → P s → ((t : S) → o ≡ gives t → P (f t .state)) → P (onward s o f .state)
@@ -47,7 +47,7 @@ sound-waiting s k = record { since = omega arith; pending = tt; rising = k .risi
 sound-due : (k : State) (s : ArqInactivity) → Sound s → Sound (due k s .timer)
 sound-due Idle s h = h
 sound-due (Waiting since) s h =
-    cond-keeps SoundTurn (not (s .«unsolicited_pending») && elapsed s since) (turn RequestUnsolicitedStatus (put s SendingUnsolicited true)) (turn None s) (record { since = omega arith; pending = refl; rising = h .rising }) h
+    cond-keeps SoundTurn (not (s .«unsolicited_pending») && elapsed s since) (turn RequestUnsolicitedStatus (inState s SendingUnsolicited true)) (turn None s) (record { since = omega arith; pending = refl; rising = h .rising }) h
 sound-due SendingUnsolicited s h = h
 sound-due (FinalWait since) s h = cond-keeps SoundTurn (elapsed s since) (turn Terminate (renewed s)) (turn None s) (sound-renewed s) h
 
@@ -55,7 +55,7 @@ pub sound-due-of : (s : ArqInactivity) → Sound s → Sound (dueOf s .timer)
 sound-due-of s = sound-due (s .state) s
 
 -- the state after an unsolicited status was sent
-sound-sent : (k : State) (s : ArqInactivity) → Sound s → Sound (put s (sentFrom k (s .«last_block»)) false)
+sound-sent : (k : State) (s : ArqInactivity) → Sound s → Sound (inState s (sentFrom k (s .«last_block»)) false)
 sound-sent Idle s h = record { since = omega arith; pending = refl; rising = h .rising }
 sound-sent (Waiting since) s h = record { since = omega arith; pending = tt; rising = h .rising }
 sound-sent SendingUnsolicited s h = record { since = omega arith; pending = refl; rising = h .rising }

@@ -1,4 +1,5 @@
--- 01, module 5: ArqInactivity, in the order of the Rust. What each call answers, and the timer that it leaves. Assumes nothing.
+-- 01, module 5: ArqInactivity, in the order of the Rust, but `observe` before those that build on it. What each call answers, and
+-- the timer that it leaves. Assumes nothing.
 use mathlib.Core.Path.{_≡_}
 use mathlib.Core.Bool.{Bool, true, false, cond, not, _&&_}
 use Prim.Native.Nat.{ℕ, _-_, _≤_, _<_}
@@ -34,7 +35,11 @@ use Rattle.inactivity.specs.declared.Admission.the-variants as admission
 abbrev pub newOf : ℕ → ArqInactivity
 newOf first = record { state = Idle; «last_block» = 0; «unsolicited_pending» = false; transaction = record { 0 = first }; «next_token» = numberAfter first }
 
--- the token is that of the present transaction; else it is foreign
+-- `token`: that of the present transaction
+abbrev pub tokenOf : ArqInactivity → TransactionToken
+tokenOf s = s .transaction
+
+-- `owns`: the token is that of the present transaction; else it is foreign
 abbrev pub ownsOf : ArqInactivity → TransactionToken → Bool
 ownsOf s t = eqb (t .0) (s .transaction .0)
 
@@ -47,12 +52,12 @@ abbrev pub clocked : ArqInactivity → ℕ → ArqInactivity
 clocked s b = record { state = s .state; «last_block» = b; «unsolicited_pending» = s .«unsolicited_pending»; transaction = s .transaction; «next_token» = s .«next_token» }
 
 -- in another state, with an unsolicited status pending or not
-abbrev pub put : ArqInactivity → State → Bool → ArqInactivity
-put s k p = record { state = k; «last_block» = s .«last_block»; «unsolicited_pending» = p; transaction = s .transaction; «next_token» = s .«next_token» }
+abbrev pub inState : ArqInactivity → State → Bool → ArqInactivity
+inState s k p = record { state = k; «last_block» = s .«last_block»; «unsolicited_pending» = p; transaction = s .transaction; «next_token» = s .«next_token» }
 
 -- waiting from the clock's block on
 abbrev pub waiting : ArqInactivity → ArqInactivity
-waiting s = put s (Waiting (s .«last_block»)) (s .«unsolicited_pending»)
+waiting s = inState s (Waiting (s .«last_block»)) (s .«unsolicited_pending»)
 
 -- ---- refusals
 
@@ -101,7 +106,7 @@ elapsed s since = leb 32 (s .«last_block» - since)
 -- what is due at the clock's block, by the state: an unsolicited status, if none is pending; after it the end
 abbrev pub due : State → ArqInactivity → Turn
 due Idle s = turn None s
-due (Waiting since) s = cond (not (s .«unsolicited_pending») && elapsed s since) (turn RequestUnsolicitedStatus (put s SendingUnsolicited true)) (turn None s)
+due (Waiting since) s = cond (not (s .«unsolicited_pending») && elapsed s since) (turn RequestUnsolicitedStatus (inState s SendingUnsolicited true)) (turn None s)
 due SendingUnsolicited s = turn None s
 due (FinalWait since) s = cond (elapsed s since) (turn Terminate (renewed s)) (turn None s)
 
@@ -113,7 +118,7 @@ dueOf s = due (s .state) s
 unfoldable pub advanceOf : ArqInactivity → ℕ → After InactivityAction ArqInactivity
 advanceOf s b = onward s (admitted s b) (λ t. acts (dueOf t))
 
--- the state after an unsolicited status was sent at block b
+-- the state after an unsolicited status was sent at block b (the Rust's `else`: idle and in the final wait none is pending)
 abbrev pub sentFrom : State → ℕ → State
 sentFrom Idle b = FinalWait b
 sentFrom (Waiting since) b = Waiting b
@@ -122,7 +127,7 @@ sentFrom (FinalWait since) b = FinalWait b
 
 -- the result of an unsolicited status
 abbrev pub unsolicitedBy : StatusResult → ArqInactivity → Turn
-unsolicitedBy Sent s = turn None (put s (sentFrom (s .state) (s .«last_block»)) false)
+unsolicitedBy Sent s = turn None (inState s (sentFrom (s .state) (s .«last_block»)) false)
 unsolicitedBy Failed s = turn Terminate (renewed s)
 
 -- it says nothing if none is pending

@@ -5,7 +5,7 @@ use spach::SpachError;
 use spach::Verdict;
 ghost use mathlib.Core.Path.{_≡_};
 ghost use Prim.Native.Nat.{_≤_};
-ghost use Rattle.inactivity.specs.Inactivity.{Sound, newOf, ownsOf, renewed, put, waiting, isIdle, sentFrom, turn, acts, elapsed, admitted, resetOf, observeOf, receivedFrameOf, dueOf, advanceOf, unsolicitedAt, unsolicitedOf, solicitedAt, solicitedOf, resultAt, reported, observed, hasReset, acted, admission, clockNumber, refusalOf};
+ghost use Rattle.inactivity.specs.Inactivity.{Sound, newOf, tokenOf, ownsOf, renewed, inState, waiting, isIdle, sentFrom, turn, acts, elapsed, admitted, resetOf, observeOf, receivedFrameOf, dueOf, advanceOf, unsolicitedAt, unsolicitedOf, solicitedAt, solicitedOf, resultAt, reported, observed, hasReset, acted, admission, clockNumber, refusalOf};
 ghost use Rattle.spach.specs.Refusal.{refuses};
 
 // Tells the transactions of one timer apart: a number of its counter.
@@ -184,7 +184,7 @@ impl ArqInactivity {
     }
 
     pub fn token(self) -> TransactionToken
-        ensures { λ r. ⌜ r ≡ self .transaction ⌝ }
+        ensures { λ r. ⌜ r ≡ tokenOf self ⌝ }
     {
         self.transaction
     }
@@ -206,8 +206,8 @@ impl ArqInactivity {
     }
 
     // The same timer in another state.
-    fn put(self, state: State, unsolicited_pending: bool) -> ArqInactivity
-        ensures { λ r. ⌜ r ≡ put self state «unsolicited_pending» ⌝ }
+    fn in_state(self, state: State, unsolicited_pending: bool) -> ArqInactivity
+        ensures { λ r. ⌜ r ≡ inState self state «unsolicited_pending» ⌝ }
     {
         let transaction = self.transaction;
         ArqInactivity {
@@ -226,7 +226,7 @@ impl ArqInactivity {
         let state = State::Waiting {
             since_block: self.last_block,
         };
-        self.put(state, self.unsolicited_pending)
+        self.in_state(state, self.unsolicited_pending)
     }
 
     // Fewer than 4 tokens left 18, then the clock gone back 17; else the clock is moved.
@@ -300,7 +300,7 @@ impl ArqInactivity {
                 if !self.elapsed(since_block) {
                     return turned(self, InactivityAction::None);
                 }
-                let asking = self.put(State::SendingUnsolicited, true);
+                let asking = self.in_state(State::SendingUnsolicited, true);
                 turned(asking, InactivityAction::RequestUnsolicitedStatus)
             }
             State::FinalWait { since_block } => {
@@ -338,7 +338,7 @@ impl ArqInactivity {
             StatusResult::Sent => {
                 let state = self.state;
                 let next = sent_from(state, self.last_block);
-                let told = self.put(next, false);
+                let told = self.in_state(next, false);
                 turned(told, InactivityAction::None)
             }
             StatusResult::Failed => {

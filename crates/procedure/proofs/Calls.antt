@@ -100,9 +100,9 @@ module _ (p : ArqProcedure) (b : List ℕ) (f : ArqFrame) where
 
 -- the refusals before it
 module _ (p : ArqProcedure) (block : ℕ) (xs b : List ℕ) {a : Admission} (e : admission a ≡ letThrough (p .inactivity) block (length b)) where
-  pub receive-stops : {x : ProcedureError} {y : After ReceiveEvent ArqProcedure} → a ≡ Refused x → y ≡ record { outcome = refuses (refusalOf x); state = p } → beside y b ≡ receiveOf p block xs b
+  pub receive-refused : {x : ProcedureError} {y : After ReceiveEvent ArqProcedure} → a ≡ Refused x → y ≡ record { outcome = refuses (refusalOf x); state = p } → beside y b ≡ receiveOf p block xs b
   unfolding receiveOf
-  receive-stops q h = ap (λ z. beside z b) h ∙ ap (thenHears p xs b) (sym (ap admission q) ∙ e)
+  receive-refused q h = ap (λ z. beside z b) h ∙ ap (thenHears p xs b) (sym (ap admission q) ∙ e)
 
   pub receive-goes : {t : ArqInactivity} {q : ArqProcedure} {y : Out} → a ≡ Admitted t → q ≡ withTimer p t → y ≡ decoded q b (decodeOf xs) → y ≡ receiveOf p block xs b
   unfolding receiveOf

@@ -1,5 +1,5 @@
 -- Laws of the procedure, where the equality with its definition leaves a reader to ask. Assumes nothing.
-use mathlib.Core.Path.{_≡_, refl, sym, ap}
+use mathlib.Core.Path.{_≡_, refl, sym, ap, _∙_}
 use mathlib.Core.Bool.{Bool, true, false}
 use mathlib.Core.List.{List}
 use Prim.Native.Nat.{ℕ}
@@ -7,13 +7,17 @@ use native.Mathlib.Omega.{arith}
 use lib.ListN.{length}
 use Rattle.token.specs.Token.{numberAfter}
 use Rattle.spach.specs.Refusal.{gives, refuses}
+use Rattle.arq.specs.declared.FrameKind.{FrameKind}
+use Rattle.arq.specs.declared.FrameKind.the-variants.{Begin}
+use Rattle.arq.specs.declared.ArqFrame.{ArqFrame}
 use Rattle.arq.specs.Encode.{byKind}
+use Rattle.arq.specs.Decode.{decodeOf}
 use Rattle.receiver.specs.declared.ArqReassembler.{ArqReassembler}
 use Rattle.receiver.specs.declared.Request.{Request}
 use Rattle.receiver.specs.declared.Request.the-variants as requests
 use Rattle.inactivity.specs.declared.ArqInactivity.{ArqInactivity}
 use Rattle.receiver.specs.declared.StatusAnswer.the-variants as statuses
-use Rattle.receiver.specs.Receiver.{statusAnswer}
+use Rattle.receiver.specs.Receiver.{statusAnswer, completeOf}
 use Rattle.inactivity.specs.Inactivity.{clocked}
 use Rattle.receiver.specs.declared.Delivery.{Delivery}
 use Rattle.procedure.specs.declared.StatusTransmission.{StatusTransmission}
@@ -22,7 +26,7 @@ use Rattle.procedure.specs.declared.Transmission.the-variants as transmi
 use Rattle.procedure.specs.declared.ReceiveEvent.the-variants as receives
 use Rattle.procedure.specs.declared.TimerEvent.the-variants.{SendStatus, Terminated}
 use Rattle.procedure.specs.declared.ArqProcedure.{ArqProcedure}
-use Rattle.procedure.specs.Procedure.{Sound, withTimer, accepted, refusal, letThrough, thenHears, receiveOf, dueAt, advanceOf}
+use Rattle.procedure.specs.Procedure.{Sound, withTimer, activeOf, timed, endsUnpolled, accepted, refusal, letThrough, thenHears, receiveOf, dueAt, advanceOf}
 use Rattle.procedure.specs.History.{present}
 use Rattle.procedure.proofs.Ways.{due-ways, advance-ways, receive-passes, receive-ways}
 use Rattle.procedure.proofs.Steps.{at}
@@ -46,6 +50,29 @@ terminated-takes-two p b =
     (λ q c. at (λ z. dueAt z .outcome ≡ gives Terminated → dueAt z .state .inactivity .«next_token» ≡ numberAfter (numberAfter (p .inactivity .«next_token»))) c
     (due-ways (λ a. a .outcome ≡ gives Terminated → a .state .inactivity .«next_token» ≡ numberAfter (numberAfter (p .inactivity .«next_token»))) (withTimer p (clocked (p .inactivity) b))
     (λ k e. absurd (let z : _≡_ {A = ℕ} 0 1 = cc in omega arith)) (λ since st k f e. absurd (let z : _≡_ {A = ℕ} 0 1 = cc in omega arith)) (λ since st k e. refl)))
+
+begin-whole : (p : ArqProcedure) (begin complete : Bool) (r : Request) → begin ≡ true → activeOf p ≡ true → let q = endsUnpolled r complete (withTimer p (timed begin complete (p .inactivity))) in activeOf q ≡ false
+    → q .inactivity .«next_token» ≡ numberAfter (numberAfter (p .inactivity .«next_token»))
+begin-whole p true true requests.Nothing b h e = refl
+begin-whole p true false requests.Nothing b h e = absurd (let z : true ≡ false = sym h ∙ e in let w : _≡_ {A = ℕ} 0 1 = cc in omega arith)
+begin-whole p true complete (requests.Status r) b h e = absurd (let z : true ≡ false = sym h ∙ e in let w : _≡_ {A = ℕ} 0 1 = cc in omega arith)
+begin-whole p false complete r b h e = absurd (let w : _≡_ {A = ℕ} 0 1 = cc in omega arith)
+
+-- so does a Begin that is accepted and after which nothing is held: it resets the timer, then its message, complete and not
+-- polled, ends the transaction
+pub begin-takes-two : (p : ArqProcedure) (block : ℕ) (xs b : List ℕ) (f : ArqFrame) (m : Delivery) (x : Transmission) → decodeOf xs ≡ gives f → f .kind ≡ Begin
+    → receiveOf p block xs b .outcome ≡ gives (receives.Accepted m x) → activeOf (receiveOf p block xs b .procedure) ≡ false
+    → receiveOf p block xs b .procedure .inactivity .«next_token» ≡ numberAfter (numberAfter (p .inactivity .«next_token»))
+unfolding accepted
+begin-takes-two p block xs b f m x d k =
+    receive-ways (λ o q. o ≡ gives (receives.Accepted m x) → activeOf q ≡ false → q .inactivity .«next_token» ≡ numberAfter (numberAfter (p .inactivity .«next_token»))) p block xs b
+    (λ n e. absurd (let z : _≡_ {A = ℕ} 0 1 = cc in omega arith)) (λ q n c e. absurd (let z : _≡_ {A = ℕ} 0 1 = cc in omega arith)) (λ q c e. absurd (let z : _≡_ {A = ℕ} 0 1 = cc in omega arith))
+    (λ q c g h n r s held e. at (λ z. activeOf (accepted (byKind (g .kind) true false) n r (record { receiver = s; inactivity = z .inactivity }) .state) ≡ false
+    → accepted (byKind (g .kind) true false) n r (record { receiver = s; inactivity = z .inactivity }) .state .inactivity .«next_token» ≡ numberAfter (numberAfter (p .inactivity .«next_token»))) c
+    (begin-whole (record { receiver = s; inactivity = clocked (p .inactivity) block }) (byKind (g .kind) true false) (completeOf s) r (begins h) held))
+  where
+    begins : {g : ArqFrame} → decodeOf xs ≡ gives g → byKind (g .kind) true false ≡ true
+    begins {g} h = let z : g ≡ f = let w = sym h ∙ d in cc in ap (λ (y : ArqFrame). byKind (y .kind) true false) z ∙ ap (λ (y : FrameKind). byKind y true false) k
 
 -- a receive that 18, 16 or 17 refuses leaves the procedure
 pub receive-stops : (p : ArqProcedure) (block : ℕ) (xs b : List ℕ) (n : ℕ) → letThrough (p .inactivity) block (length b) ≡ refuses n → receiveOf p block xs b ≡ refusal n p b

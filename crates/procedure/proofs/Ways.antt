@@ -26,7 +26,7 @@ use Rattle.inactivity.specs.declared.State.the-variants.{Idle, Waiting, Sending
 use Rattle.inactivity.specs.declared.StatusResult.{StatusResult}
 use Rattle.inactivity.specs.declared.StatusResult.the-variants as results
 use Rattle.inactivity.specs.declared.InactivityAction.the-variants as actions
-use Rattle.inactivity.specs.Inactivity.{turn, ownsOf, renewed, clocked, put, admitted, due, elapsed}
+use Rattle.inactivity.specs.Inactivity.{turn, ownsOf, renewed, clocked, inState, admitted, due, elapsed}
 use Rattle.inactivity.proofs.Calls.{ticked-gives, admitted-gives}
 use Rattle.procedure.specs.declared.StatusTransmission.{StatusTransmission}
 use Rattle.procedure.specs.declared.ReceiveEvent.{ReceiveEvent}
@@ -85,7 +85,7 @@ reset-ways P p stops goes = by (fewerThan 4 (p .inactivity .«next_token»)) ref
 module _ (P : After TimerEvent ArqProcedure → Type 0) (q : ArqProcedure)
     (calm : ((since : ℕ) → completeOf (q .receiver) ≡ false → q .inactivity .state ≡ FinalWait since → elapsed (q .inactivity) since ≡ false) → P (says None q))
     (asks : (since : ℕ) → q .inactivity .state ≡ Waiting since → completeOf (q .receiver) ≡ false → q .inactivity .«unsolicited_pending» ≡ false
-    → let p = withTimer q (put (q .inactivity) SendingUnsolicited true) in P (says (SendStatus (unsolicited p)) p))
+    → let p = withTimer q (inState (q .inactivity) SendingUnsolicited true) in P (says (SendStatus (unsolicited p)) p))
     (ends : (since : ℕ) → q .inactivity .state ≡ FinalWait since → elapsed (q .inactivity) since ≡ true → P (says Terminated (ended (withTimer q (renewed (q .inactivity)))))) where
   abbrev turned : State → After TimerEvent ArqProcedure
   turned k = let d = due k (q .inactivity) in follows (d .action) (withTimer q (d .timer))
@@ -98,7 +98,7 @@ module _ (P : After TimerEvent ArqProcedure → Type 0) (q : ArqProcedure)
       quiet = calm (λ s z w. absurd (let v = sym e ∙ w in let u : _≡_ {A = ℕ} 0 1 = cc in omega arith))
 
       by : (x : Bool) → not (q .inactivity .«unsolicited_pending») && elapsed (q .inactivity) since ≡ x
-          → let d = cond x (turn actions.RequestUnsolicitedStatus (put (q .inactivity) SendingUnsolicited true)) (turn actions.None (q .inactivity)) in P (follows (d .action) (withTimer q (d .timer)))
+          → let d = cond x (turn actions.RequestUnsolicitedStatus (inState (q .inactivity) SendingUnsolicited true)) (turn actions.None (q .inactivity)) in P (follows (d .action) (withTimer q (d .timer)))
       by true f = asks since e c (not-first (q .inactivity .«unsolicited_pending») (elapsed (q .inactivity) since) f)
       by false f = quiet
   by-state SendingUnsolicited e c = calm (λ since z s. absurd (let v = sym e ∙ s in let w : _≡_ {A = ℕ} 0 1 = cc in omega arith))

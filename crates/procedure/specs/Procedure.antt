@@ -77,11 +77,11 @@ admits p b = andThen (admitted (p .inactivity) b) (λ t. gives (withTimer p t))
 abbrev pub says : {A : Type 0} → A → ArqProcedure → After A ArqProcedure
 says e p = record { outcome = gives e; state = p }
 
--- fewer than 4 tokens left: 18
+-- `reset`: fewer than 4 tokens left 18; else nothing is held, under a new token
 unfoldable pub resetOf : ArqProcedure → After Unit ArqProcedure
 resetOf p = onward p (andThen (enough (p .inactivity)) (λ t. gives (withTimer p t))) (λ q. says tt (ended q))
 
--- a transaction is held
+-- `active`: a transaction is held
 abbrev pub activeOf : ArqProcedure → Bool
 activeOf p = p .receiver .transaction .held
 

@@ -145,14 +145,11 @@ impl ArqProcedure {
     }
 
     // The same procedure with another timer.
-    pub fn with_timer(self, inactivity: ArqInactivity) -> ArqProcedure
+    pub fn with_timer(mut self, inactivity: ArqInactivity) -> ArqProcedure
         ensures { λ r. ⌜ r ≡ withTimer self inactivity ⌝ }
     {
-        let receiver = self.receiver;
-        ArqProcedure {
-            receiver: receiver,
-            inactivity: inactivity,
-        }
+        self.inactivity = inactivity;
+        self
     }
 
     pub fn reset(self) -> Reset

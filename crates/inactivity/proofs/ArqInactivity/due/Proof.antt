@@ -25,8 +25,8 @@ returns-2 : tie.Need-returns-2
 returns-2 c =
     c .turned2 .ensures ∙ sym (rw (c .before .before .before .before .before .state .given .1, c .before .before .before .if1 .left, ← c .before .before .elapsed .ensures, not-true (c .before .before .elapsed .result) (c .before .if2 .taken)))
 
-put-requires : tie.Need-put-requires
-put-requires c κs = search needs
+in-state-requires : tie.Need-in-state-requires
+in-state-requires c κs = search needs
 
 turned-requires-3 : tie.Need-turned-requires-3
 turned-requires-3 c κs = search needs
@@ -64,7 +64,7 @@ turned-requires-7 c κs = search needs
 
 returns-4 : tie.Need-returns-4
 returns-4 c =
-    rw (c .turned3 .ensures, c .before .put .ensures, c .before .before .before .before .before .before .state .given .1, c .before .before .before .before .if1 .left, ← c .before .before .before .elapsed .ensures, not-false (c .before .before .before .elapsed .result) (c .before .before .if2 .left))
+    rw (c .turned3 .ensures, c .before .in-state .ensures, c .before .before .before .before .before .before .state .given .1, c .before .before .before .before .if1 .left, ← c .before .before .before .elapsed .ensures, not-false (c .before .before .before .elapsed .result) (c .before .before .if2 .left))
 
 returns-5 : tie.Need-returns-5
 returns-5 c =
@@ -86,7 +86,7 @@ due-spec =
     elapsed-requires
     turned-requires-2
     returns-2
-    put-requires
+    in-state-requires
     turned-requires-3
     enum-known-state-2
     elapsed-requires-2

@@ -17,8 +17,8 @@ enum-told c = search needs
 sent-from-requires : tie.Need-sent-from-requires
 sent-from-requires c κs = search needs
 
-put-requires : tie.Need-put-requires
-put-requires c κs = search needs
+in-state-requires : tie.Need-in-state-requires
+in-state-requires c κs = search needs
 
 turned-requires-2 : tie.Need-turned-requires-2
 turned-requires-2 c κs = search needs
@@ -33,7 +33,7 @@ turned-requires-3 : tie.Need-turned-requires-3
 turned-requires-3 c κs = search needs
 
 returns-2 : tie.Need-returns-2
-returns-2 c = rw (c .turned2 .ensures, c .before .put .ensures, c .before .before .sent-from .ensures, c .before .before .before .enum-told .given .1, not-false (c .before .before .before .before .before .before .before .args .self .«unsolicited_pending») (c .before .before .before .before .before .if1 .left))
+returns-2 c = rw (c .turned2 .ensures, c .before .in-state .ensures, c .before .before .sent-from .ensures, c .before .before .before .enum-told .given .1, not-false (c .before .before .before .before .before .before .before .args .self .«unsolicited_pending») (c .before .before .before .before .before .if1 .left))
 
 returns-3 : tie.Need-returns-3
 returns-3 c = rw (c .turned3 .ensures, c .before .renew .ensures, c .before .before .enum-told2 .given .1, not-false (c .before .before .before .before .before .before .args .self .«unsolicited_pending») (c .before .before .before .before .if1 .left))
@@ -46,7 +46,7 @@ unsolicited-at-spec =
     returns
     enum-told
     sent-from-requires
-    put-requires
+    in-state-requires
     turned-requires-2
     enum-told-2
     renew-requires

@@ -1,5 +1,5 @@
 -- `procedure::ArqProcedure::receive` meets its contract. Assumes nothing.
-use Rattle.procedure.proofs.Calls.{receive-stops, receive-goes}
+use Rattle.procedure.proofs.Calls.{receive-refused, receive-goes}
 use Rattle.procedure.proofs.Kept.{kept-out, sound-receive, let-through-gives}
 use mathlib.Core.Path.{sym, ap, _∙_}
 use Rattle.inactivity.specs.Inactivity.{admission}
@@ -29,7 +29,7 @@ decode-requires c κs =
 returns : tie.Need-returns
 returns c =
     let a = c .before .before .before .before .before .before .before .before .args in
-    kept-out (receive-stops (a .self) (a .tdma-block) (a .octets .now) (a .buffer .now) (c .before .before .before .before .admit .ensures) (c .before .before .admission .given .1) (c .refuse .ensures)) (sound-receive (a .self) (a .tdma-block) (a .octets .now) (a .buffer .now) (c .before .before .before .before .before .before .before .before .pre))
+    kept-out (receive-refused (a .self) (a .tdma-block) (a .octets .now) (a .buffer .now) (c .before .before .before .before .admit .ensures) (c .before .before .admission .given .1) (c .refuse .ensures)) (sound-receive (a .self) (a .tdma-block) (a .octets .now) (a .buffer .now) (c .before .before .before .before .before .before .before .before .pre))
 
 same-length : tie.Need-same-length
 same-length c = search needs
