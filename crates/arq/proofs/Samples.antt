@@ -17,12 +17,10 @@ use Rattle.spach.specs.Refusal.{Outcome, gives, refuses, andThen}
 use Rattle.spach.specs.Header.{usageOf, headerAAt, addressAt}
 use Rattle.arq.specs.declared.ResponseMode.{ResponseMode}
 use Rattle.arq.specs.declared.ResponseMode.the-variants.{Contention, Reservation}
-use Rattle.arq.specs.declared.FrameKind.{FrameKind}
-use Rattle.arq.specs.declared.FrameKind.the-variants.{Begin, Continue}
 use Rattle.arq.specs.declared.ArqHeader.{ArqHeader}
 use Rattle.arq.specs.declared.ArqFrame.{ArqFrame}
 use Rattle.arq.specs.declared.PackedFrame.{PackedFrame}
-use Rattle.arq.specs.Frame.{modeOf, packed, beginFrame, continueFrame, aContinue}
+use Rattle.arq.specs.Frame.{modeOf, kindOf, packed, beginFrame, continueFrame, aContinue}
 use Rattle.arq.specs.Encode.{encodeOf}
 use Rattle.arq.specs.Decode.{decodeOf}
 use Rattle.arq.specs.Cut.{countOf, frameOf}
@@ -72,13 +70,9 @@ numbered (gives a) n = eqb n 0
 numbered (refuses m) n = eqb m n
 
 -- the fields of a frame as numbers
-abbrev kindNumber : FrameKind → ℕ
-kindNumber Begin = 5
-kindNumber Continue = 6
-
 abbrev fields : ArqFrame → List ℕ
 fields f =
-    kindNumber (f .kind)
+    kindOf (f .kind)
     ∷ usageOf (f .header .channel)
     ∷ bit (f .header .flags .«pch_continuation»)
     ∷ bit (f .header .flags .«bcch_change»)
@@ -137,11 +131,13 @@ samples =
     ∷ sends (header Arch false false false true 85 true Contention) (Min34 (2 ^ 33 + 5)) (replicate 6 0x5a) 1 (0x61 ∷ 0xa6 ∷ 0xa9 ∷ 0x02 ∷ 0xd0 ∷ 0x00 ∷ 0x00 ∷ 0x00 ∷ 0x00 ∷ 0x00 ∷ 0x00 ∷ 0x00 ∷ 0x00 ∷ 0x00 ∷ [])
     ∷ sends (header Smsch true true true true 127 true Reservation) (Imsi50 (2 ^ 50 - 1)) (replicate 255 0x81) 26 (0x9d ∷ 0xb7 ∷ 0xf9 ∷ 0xe6 ∷ 0x06 ∷ 0x06 ∷ 0x06 ∷ 0x06 ∷ 0x04 ∷ 0x00 ∷ 0x00 ∷ 0x00 ∷ 0x00 ∷ 0x00 ∷ [])
     ∷ sends (header Arch false false false true 1 false Reservation) (Tmsi20 0x80001) (replicate 255 0x3c) 0 (0x61 ∷ 0x45 ∷ 0x00 ∷ 0x00 ∷ 0x20 ∷ 0x47 ∷ 0xfc ∷ 0xf0 ∷ 0xf0 ∷ 0xf0 ∷ 0xf0 ∷ 0xf0 ∷ 0xf0 ∷ 0xf0 ∷ [])
+    ∷ sends (echoing 5 false) (Imsi50 (2 ^ 49 + 2)) (replicate 3 255) 0 (0x61 ∷ 0x71 ∷ 0x00 ∷ 0x00 ∷ 0x00 ∷ 0x00 ∷ 0x00 ∷ 0x01 ∷ 0x05 ∷ 0x00 ∷ 0x3f ∷ 0xff ∷ 0xff ∷ 0xf0 ∷ [])
     ∷ reads (0x91 ∷ 0x51 ∷ 0x00 ∷ 0x00 ∷ 0x04 ∷ 0xa8 ∷ 0x41 ∷ 0xe9 ∷ 0x69 ∷ 0x69 ∷ 0x69 ∷ 0x69 ∷ 0x69 ∷ 0x68 ∷ []) (5 ∷ 4 ∷ 1 ∷ 0 ∷ 0 ∷ 0 ∷ 42 ∷ 0 ∷ 1 ∷ 1 ∷ 0x800002 ∷ 7 ∷ 0 ∷ 0 ∷ [])
     ∷ reads (0x89 ∷ 0x91 ∷ 0x50 ∷ 0x80 ∷ 0xa0 ∷ 0x00 ∷ 0x00 ∷ 0x00 ∷ 0x00 ∷ 0x00 ∷ 0x00 ∷ 0x00 ∷ 0x00 ∷ 0x00 ∷ []) (6 ∷ 4 ∷ 0 ∷ 1 ∷ 0 ∷ 0 ∷ 42 ∷ 0 ∷ 1 ∷ 0 ∷ 0 ∷ 0 ∷ 1 ∷ 0 ∷ [])
     ∷ reads (0x65 ∷ 0x61 ∷ 0x00 ∷ 0x00 ∷ 0x00 ∷ 0x02 ∷ 0xd5 ∷ 0x20 ∷ 0x65 ∷ 0xa5 ∷ 0xa5 ∷ 0xa5 ∷ 0xa5 ∷ 0xa0 ∷ []) (5 ∷ 3 ∷ 0 ∷ 0 ∷ 1 ∷ 0 ∷ 85 ∷ 1 ∷ 0 ∷ 2 ∷ (2 ^ 33 + 5) ∷ 6 ∷ 0 ∷ 0 ∷ [])
     ∷ reads (0x61 ∷ 0xa6 ∷ 0xa9 ∷ 0x02 ∷ 0xd0 ∷ 0x00 ∷ 0x00 ∷ 0x00 ∷ 0x00 ∷ 0x00 ∷ 0x00 ∷ 0x00 ∷ 0x00 ∷ 0x00 ∷ []) (6 ∷ 3 ∷ 0 ∷ 0 ∷ 0 ∷ 1 ∷ 85 ∷ 1 ∷ 0 ∷ 0 ∷ 0 ∷ 0 ∷ 2 ∷ 0 ∷ [])
     ∷ reads (0x9d ∷ 0xb7 ∷ 0xf9 ∷ 0xe6 ∷ 0x06 ∷ 0x06 ∷ 0x06 ∷ 0x06 ∷ 0x04 ∷ 0x00 ∷ 0x00 ∷ 0x00 ∷ 0x00 ∷ 0x00 ∷ []) (6 ∷ 4 ∷ 1 ∷ 1 ∷ 1 ∷ 1 ∷ 127 ∷ 1 ∷ 1 ∷ 0 ∷ 0 ∷ 0 ∷ 3 ∷ 25 ∷ [])
+    ∷ reads (0x61 ∷ 0x71 ∷ 0x00 ∷ 0x00 ∷ 0x00 ∷ 0x00 ∷ 0x00 ∷ 0x01 ∷ 0x05 ∷ 0x00 ∷ 0x3f ∷ 0xff ∷ 0xff ∷ 0xf0 ∷ []) (5 ∷ 3 ∷ 0 ∷ 0 ∷ 0 ∷ 0 ∷ 5 ∷ 0 ∷ 0 ∷ 3 ∷ (2 ^ 49 + 2) ∷ 3 ∷ 0 ∷ 0 ∷ [])
     ∷ encodes 127 0
     ∷ encodes 128 11
     ∷ hears (0x61 ∷ 0x80 ∷ 0x28 ∷ 0x64 ∷ 0x00 ∷ 0x00 ∷ 0x00 ∷ 0x00 ∷ 0x00 ∷ 0x00 ∷ 0x00 ∷ 0x00 ∷ 0x00 ∷ 0x00 ∷ []) 0

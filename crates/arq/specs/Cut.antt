@@ -1,4 +1,5 @@
--- 01, *Cut*: over 255 octets 1; then 3, 11, 2 as encode; k not below the count 12. Assumes nothing.
+-- 01, *Cut* (the Rust: IS-136.1-A 5.4.2.1): over 255 octets 1; then 3, 11, 2 as encode; k not below the count 12. An empty
+-- message is one Begin. (x - y stops at 0.) Assumes nothing.
 use mathlib.Core.Bool.{not}
 use mathlib.Core.List.{List}
 use Prim.Native.Nat.{ℕ, zero, suc, _+_, _-_, _*_, _/_, min}

@@ -4,7 +4,8 @@
 -- 10, the bit after it at 12, the reservation response at 13. A Begin's address is the encrypted bit at 14 and the identity
 -- from 15 on; its rest starts where the identity ends. A Continue's rest starts at 14, so its number is at 25, its data at 30.
 -- In the rest, echo has 7 bits, then reserved 2 (at 7), polling (at 9), mode (at 10); the octet count follows at 11, a Begin's
--- data at 19. 109 bits in all; the padding is 3 more. The round trips of Theorems.antt tie the two readings. Assumes nothing.
+-- data at 19. 109 bits in all; the padding is 3 more. The round trips of Theorems.antt tie the two readings. The octets are one
+-- information block whose CRC was found good. Assumes nothing.
 use mathlib.Core.Bool.{Bool, cond, not}
 use mathlib.Core.List.{List}
 use Prim.Native.Nat.{ℕ, _+_, _*_}
@@ -18,9 +19,10 @@ use Rattle.spach.specs.Refusal.{Outcome, gives, refuses, refuse, andThen}
 use Rattle.spach.specs.Header.{usageOf, isSet, headerAAt, addressAt}
 use Rattle.arq.specs.declared.ResponseMode.{ResponseMode}
 use Rattle.arq.specs.declared.ResponseMode.the-variants.{Contention, Reservation}
+use Rattle.arq.specs.declared.FrameKind.the-variants.{Begin, Continue}
 use Rattle.arq.specs.declared.ArqHeader.{ArqHeader}
 use Rattle.arq.specs.declared.ArqFrame.{ArqFrame}
-use Rattle.arq.specs.Frame.{room, aBegin, aContinue}
+use Rattle.arq.specs.Frame.{kindOf, room, aBegin, aContinue}
 
 -- response mode: 0 Contention, 1 Reservation
 abbrev pub modeAt : Bool → ResponseMode
@@ -63,11 +65,11 @@ decodeContinue h bs =
     (refuse (ltb 25 k) 12
     (gives (aContinue (headerAt h (isSet 13 bs) 14 bs) (field 10 2 bs) k (take 79 (drop 30 bs)))))
 
--- by kind: Begin 5, Continue 6
+-- by kind; another is refused 4
 abbrev pub decodeKind : HeaderA → List Bool → Outcome ArqFrame
 decodeKind h bs =
-    cond (eqb (field 7 3 bs) 5) (andThen (addressAt 10 bs) (decodeBegin h bs))
-    (cond (eqb (field 7 3 bs) 6) (decodeContinue h bs)
+    cond (eqb (field 7 3 bs) (kindOf Begin)) (andThen (addressAt 10 bs) (decodeBegin h bs))
+    (cond (eqb (field 7 3 bs) (kindOf Continue)) (decodeContinue h bs)
     (refuses 4))
 
 -- Pch 3, after the fourth flag

@@ -1,4 +1,6 @@
--- 01, module 3: the frames Begin and Continue, laid out bit by bit. Assumes nothing.
+-- 01, module 3: the frames Begin and Continue, laid out bit by bit (the Rust: IS-136.1-A Figures 5-38/39 and 5.4.2). CRC and tail
+-- bits are the physical layer's. Of the standard's letters the Rust uses PEA, the echo; FRNO, a Continue's number; MSID, the
+-- identity. Assumes nothing.
 use mathlib.Core.Bool.{Bool, false}
 use mathlib.Core.List.{List, [], _∷_, _++_}
 use Prim.Native.Nat.{ℕ, _-_}
@@ -13,6 +15,7 @@ use Rattle.spach.specs.Refusal.{Outcome, verdictOf}
 use Rattle.spach.specs.Header.{headerA, headerB, address}
 use Rattle.arq.specs.declared.ResponseMode.{ResponseMode}
 use Rattle.arq.specs.declared.ResponseMode.the-variants.{Contention, Reservation}
+use Rattle.arq.specs.declared.FrameKind.{FrameKind}
 use Rattle.arq.specs.declared.FrameKind.the-variants.{Begin, Continue}
 use Rattle.arq.specs.declared.ArqHeader.{ArqHeader}
 use Rattle.arq.specs.declared.ArqFrame.{ArqFrame}
@@ -24,6 +27,11 @@ abbrev pub modeOf : ResponseMode → ℕ
 modeOf Contention = 0
 modeOf Reservation = 1
 
+-- kind: Begin 5, Continue 6
+abbrev pub kindOf : FrameKind → ℕ
+kindOf Begin = 5
+kindOf Continue = 6
+
 -- what follows header B and, in a Begin, the address: echo 7 bits, reserved 2, polling, response mode
 abbrev pub restOf : ArqHeader → List (ℕ × ℕ)
 restOf h =
@@ -33,23 +41,23 @@ restOf h =
     ∷ (1, modeOf (h .«response_mode»))
     ∷ []
 
--- a Begin up to its data: header A, header B with kind 5, address, the rest with octet count 8
+-- a Begin up to its data: header A, header B with its kind, address, the rest with octet count 8
 abbrev pub begin : ArqHeader → MobileIdentity → ℕ → List (ℕ × ℕ)
-begin h i n = headerA (h .channel) (h .flags) ++ headerB 5 (typeOf i) (h .flags) ++ address i ++ restOf h ++ (8, n) ∷ []
+begin h i n = headerA (h .channel) (h .flags) ++ headerB (kindOf Begin) (typeOf i) (h .flags) ++ address i ++ restOf h ++ (8, n) ∷ []
 
--- a Continue up to its data: header A, header B with kind 6, the rest with number 5
+-- a Continue up to its data: header A, header B with its kind, the rest with number 5
 abbrev pub continue : ArqHeader → ℕ → ℕ → List (ℕ × ℕ)
-continue h t k = headerA (h .channel) (h .flags) ++ headerB 6 t (h .flags) ++ restOf h ++ (5, k) ∷ []
+continue h t k = headerA (h .channel) (h .flags) ++ headerB (kindOf Continue) t (h .flags) ++ restOf h ++ (5, k) ∷ []
 
 -- Begin data holds 75 − width bits: 55, 51, 41, 25
 abbrev pub room : MobileIdentity → ℕ
 room i = 75 - widthOf (typeOf i)
 
--- the data bits that are read of a frame: as many as a Begin's bit count says, a Continue's 79
+-- the data bits of a Begin that are read: as many as its bit count says
 abbrev pub beginData : ArqFrame → List Bool
 beginData f = take (f .«begin_bits») (bitsOf (f .«begin_data»))
 
--- a Continue's
+-- of a Continue: 79
 abbrev pub continueData : ArqFrame → List Bool
 continueData f = take 79 (bitsOf (f .«continue_data»))
 
@@ -65,7 +73,7 @@ beginFrame f = packed (layout (begin (f .header) (f .identity) (f .«message_oct
 unfoldable pub continueFrame : ArqFrame → PackedFrame
 continueFrame f = packed (layout (continue (f .header) (f .«identity_type») (f .«frame_number»)) ++ continueData f)
 
--- frames as they are given out: the fields that only the other kind has are zero (an identity: Tmsi20 of 0)
+-- a Begin as it is given out: the fields that only the other kind has are zero (an identity: Tmsi20 of 0)
 abbrev pub aBeginOf : ArqHeader → MobileIdentity → ℕ → ℕ → List ℕ → ArqFrame
 aBeginOf h i n bits octs = record {
   kind = Begin;
@@ -79,7 +87,7 @@ aBeginOf h i n bits octs = record {
   «continue_data» = replicate 10 0;
 }
 
--- a Continue
+-- a Continue as it is given out
 abbrev pub aContinueOf : ArqHeader → ℕ → ℕ → List ℕ → ArqFrame
 aContinueOf h t k octs = record {
   kind = Continue;
@@ -101,11 +109,11 @@ aBegin h i n bits data-bits = aBeginOf h i n bits (octets 7 (upTo 56 data-bits))
 abbrev pub aContinue : ArqHeader → ℕ → ℕ → List Bool → ArqFrame
 aContinue h t k data-bits = aContinueOf h t k (octets 10 (upTo 80 data-bits))
 
--- the blank packed frame and the blank frame, which stand beside a refusal
+-- the blank packed frame, which stands beside encode's refusals
 abbrev pub blankPacked : PackedFrame
 blankPacked = record { octets = replicate 14 0 }
 
--- its header: all fields zero, which is Arch and Contention
+-- the blank frame's header: Arch, Contention, and every flag and number zero
 abbrev pub blankHeader : ArqHeader
 blankHeader = record {
   channel = Arch;
