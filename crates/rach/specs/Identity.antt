@@ -1,4 +1,5 @@
--- 01, module 1: MobileIdentity, its type, width and value. Assumes nothing.
+-- 01, module 1: MobileIdentity, its type, width and value. Values are as the air interface packs them: a MIN or an IMSI is no
+-- decimal number. Assumes nothing.
 use mathlib.Core.Bool.{Bool, _&&_}
 use Prim.Native.Nat.{ℕ, zero, suc, _^_}
 use lib.Dec.{eqb, ltb}

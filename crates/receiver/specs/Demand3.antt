@@ -90,6 +90,7 @@ HeardNo i b fs k = (f : ArqFrame) × List·Memᴰ f fs × Such i b f × (f .«fr
 -- no further Begin for that identity be heard, and let each Continue heard with that transfer's echo, channel and identity
 -- type have the number and data of one of that cut's Continues"
 pub record Fitting (i : MobileIdentity) (m : List ℕ) (b : ArqFrame) (l : List Push) : Type 0 where
+  -- a message is octets
   pub octets : Octets m
   pub size : length m ≤ 255
   pub rest : List ArqFrame

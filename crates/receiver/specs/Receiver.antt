@@ -240,6 +240,6 @@ pushed r b = record { outcome = pushAnswer (r .answer); receiver = r .receiver; 
 abbrev pub resetOf : ArqReassembler → ArqReassembler
 resetOf s = fresh (s .identity)
 
--- delivered
+-- `complete`: the transaction held has delivered its message
 abbrev pub completeOf : ArqReassembler → Bool
 completeOf s = s .transaction .held && s .delivered

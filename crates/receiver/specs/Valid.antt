@@ -1,4 +1,5 @@
--- What every state is that the constructor, push and reset make. No call asks for it. Assumes nothing.
+-- What every state is that the constructor, push and reset make. No call of the receiver asks for it; the procedure's and the
+-- listing's do. Assumes nothing.
 use mathlib.Core.Path.{_≡_}
 use mathlib.Core.Bool.{true, false}
 use Prim.Native.Nat.{_^_, _<_}

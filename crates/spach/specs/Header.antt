@@ -1,4 +1,5 @@
--- 01, modules 2 and 3: header A, header B and the address, laid out and read. Assumes nothing.
+-- 01, modules 2 and 3: header A, header B and the address, laid out and read. The Rust's remark is for all three together:
+-- IS-136.1-A Figures 5-23/24/31/32 and Table 5-7. Assumes nothing.
 use mathlib.Core.Bool.{Bool, false, cond, not}
 use mathlib.Core.List.{List, [], _∷_}
 use Prim.Native.Nat.{ℕ, _+_}
