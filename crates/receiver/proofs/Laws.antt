@@ -25,7 +25,7 @@ use Rattle.receiver.specs.declared.Request.the-variants as requests
 use Rattle.receiver.specs.declared.Reception.{Reception}
 use Rattle.receiver.specs.declared.Reception.the-variants.{Ignored, Accepted}
 use Rattle.receiver.specs.Map.{withBit}
-use Rattle.receiver.specs.Receiver.{Out, fresh, newOf, begun, stored, statusOf, statusAnswer, requestOf, putSlot, assembled, finish, pushFrame, pushOf, pushDecoded}
+use Rattle.receiver.specs.Receiver.{Out, fresh, newOf, begun, stored, statusOf, statusAnswer, requestOf, putSlot, assembled, finish, pushFrame, pushOf, pushDecoded, resetOf, completeOf}
 use Rattle.receiver.specs.Demand3.{BeginFor}
 use Rattle.receiver.proofs.Heard.{decode-numbers}
 use Rattle.receiver.proofs.Ways.{by-bool, true-false, pick-true, pick-false, Unheeded, Past, Filler, Conflict, Taken, own-way, unheeded-way, past-way, filler-way, conflict-way, taken-way, frame-ways, finish-ways, short-way, decode-way, push-ways}
@@ -329,3 +329,22 @@ module _ (s : ArqReassembler) (xs b : List ℕ) where
     where
       P : Out → Type 0
       P o = o .receiver .identity ≡ s .identity
+
+-- ---- `reset` and `complete`
+
+-- `reset` leaves what the constructor makes of the same identity
+pub resets : (s : ArqReassembler) → encodable (s .identity) ≡ true → newOf (s .identity) ≡ gives (resetOf s)
+unfolding newOf
+resets s e = rw e
+
+-- after a push that delivers, the transaction is complete
+pub complete-then : (d : SingleMessage) (r : Request) (s : ArqReassembler) (f : ArqFrame) (b : List ℕ) → GivesMessage d r (pushFrame s b f) → completeOf (pushFrame s b f .receiver) ≡ true
+complete-then d r s f b e = rw (accepted-held s f b _ r e, delivers d r s f b e .marked)
+
+-- and after a Begin that does not deliver, it is not
+pub complete-not : (r : Request) (s : ArqReassembler) (f : ArqFrame) (b : List ℕ) → BeginFor (s .identity) f → pushFrame s b f .outcome ≡ gives (Accepted deliveries.Nothing r)
+    → completeOf (pushFrame s b f .receiver) ≡ false
+complete-not r s f b c = rw (own-way s f b c) (finish-ways f (begun s f) b P (λ d e. absurd (nothing-message (sym e))) (λ d e. refl))
+  where
+    P : Out → Type 0
+    P o = o .outcome ≡ gives (Accepted deliveries.Nothing r) → completeOf (o .receiver) ≡ false
