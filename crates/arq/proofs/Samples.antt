@@ -12,7 +12,7 @@ use Rattle.rach.specs.Identity.{typeOf, valueOf, identityOf, inRange, encodable
 use Rattle.rach.specs.declared.MobileIdentity.{MobileIdentity}
 use Rattle.rach.specs.declared.MobileIdentity.the-variants.{Tmsi20, Tmsi24, Min34, Imsi50}
 use Rattle.spach.specs.declared.Channel.{Channel}
-use Rattle.spach.specs.declared.Channel.the-variants.{Arch, Smsch}
+use Rattle.spach.specs.declared.Channel.the-variants.{Arch, Smsch, Pch}
 use Rattle.spach.specs.Refusal.{Outcome, gives, refuses, andThen}
 use Rattle.spach.specs.Header.{usageOf, headerAAt, addressAt}
 use Rattle.arq.specs.declared.ResponseMode.{ResponseMode}
@@ -20,7 +20,7 @@ use Rattle.arq.specs.declared.ResponseMode.the-variants.{Contention, Res
 use Rattle.arq.specs.declared.ArqHeader.{ArqHeader}
 use Rattle.arq.specs.declared.ArqFrame.{ArqFrame}
 use Rattle.arq.specs.declared.PackedFrame.{PackedFrame}
-use Rattle.arq.specs.Frame.{modeOf, kindOf, packed, beginFrame, continueFrame, aContinue}
+use Rattle.arq.specs.Frame.{modeOf, kindOf, packed, beginFrame, continueFrame, aBegin, aContinue}
 use Rattle.arq.specs.Encode.{encodeOf}
 use Rattle.arq.specs.Decode.{decodeOf}
 use Rattle.arq.specs.Cut.{countOf, frameOf}
@@ -46,6 +46,10 @@ data Sample : Type 0 where
   sends : ArqHeader → MobileIdentity → (message : List ℕ) → (k : ℕ) → (frame : List ℕ) → Sample
   -- a Continue of this echo encodes (0) or is refused
   encodes : (echo number : ℕ) → Sample
+  -- this frame encodes (0) or is refused
+  packing : ArqFrame → (number : ℕ) → Sample
+  -- a message of so many octets has a count and a frame k (0), or these are refused
+  cuts : ArqHeader → MobileIdentity → (octets k count frame : ℕ) → Sample
   -- these octets decode (0) or are refused
   hears : List ℕ → (number : ℕ) → Sample
   -- these octets decode to a frame of kind, usage, flags, echo, polling, mode, identity type and value, octet count, type and number
@@ -96,6 +100,8 @@ abbrev holds : Sample → Bool
 holds (counts t n c) = comesTo (countOf (echoing 5 false) (identityOf t 1) (replicate n 255)) c
 holds (sends h i m k f) = packs (andThen (frameOf h i m k) encodeOf) f
 holds (encodes e n) = numbered (encodeOf (aContinue (echoing e false) 0 0 [])) n
+holds (packing f n) = numbered (encodeOf f) n
+holds (cuts h i octs k c f) = numbered (countOf h i (replicate octs 255)) c && numbered (frameOf h i (replicate octs 255) k) f
 holds (hears xs n) = numbered (decodeOf xs) n
 holds (reads xs ns) = showsFields (decodeOf xs) ns
 
@@ -147,3 +153,50 @@ samples =
 settled : T (all samples)
 unfolding samples bits value bitsOf octets field layout upTo anySet inRange encodable headerAAt addressAt packed beginFrame continueFrame encodeOf decodeOf countOf frameOf
 settled = tt
+
+-- 01, "Refused, operation by operation": the order of the refusals. Each input but a few has the fault that it is refused for
+-- and the one that is next in the order.
+abbrev full : ℕ → MobileIdentity → (octets bits : ℕ) → ArqFrame
+full e i n k = aBegin (echoing e false) i n k (replicate k true)
+
+abbrev numbering : Channel → (echo type number : ℕ) → ArqFrame
+numbering c e t k = aContinue (header c false false false false e false Contention) t k []
+
+refusals : List Sample
+refusals =
+    hears (0x61 ∷ 0x40 ∷ 0x00 ∷ 0x00 ∷ 0x21 ∷ 0x40 ∷ 0x05 ∷ 0x04 ∷ 0x00 ∷ 0x00 ∷ 0x00 ∷ 0x00 ∷ 0x00 ∷ 0x07 ∷ 0x00 ∷ []) 1
+    ∷ hears (0x01 ∷ 0x40 ∷ 0x00 ∷ 0x00 ∷ 0x21 ∷ 0x40 ∷ 0x05 ∷ 0x04 ∷ 0x00 ∷ 0x00 ∷ 0x00 ∷ 0x00 ∷ 0x00 ∷ 0x01 ∷ []) 15
+    ∷ hears (0xa3 ∷ 0x40 ∷ 0x00 ∷ 0x00 ∷ 0x21 ∷ 0x40 ∷ 0x05 ∷ 0x04 ∷ 0x00 ∷ 0x00 ∷ 0x00 ∷ 0x00 ∷ 0x00 ∷ 0x00 ∷ []) 3
+    ∷ hears (0xe3 ∷ 0x40 ∷ 0x00 ∷ 0x00 ∷ 0x21 ∷ 0x40 ∷ 0x05 ∷ 0x04 ∷ 0x00 ∷ 0x00 ∷ 0x00 ∷ 0x00 ∷ 0x00 ∷ 0x00 ∷ []) 6
+    ∷ hears (0xe1 ∷ 0x00 ∷ 0x00 ∷ 0x00 ∷ 0x21 ∷ 0x40 ∷ 0x05 ∷ 0x04 ∷ 0x00 ∷ 0x00 ∷ 0x00 ∷ 0x00 ∷ 0x00 ∷ 0x00 ∷ []) 3
+    ∷ hears (0x61 ∷ 0x02 ∷ 0x00 ∷ 0x00 ∷ 0x21 ∷ 0x40 ∷ 0x05 ∷ 0x04 ∷ 0x00 ∷ 0x00 ∷ 0x00 ∷ 0x00 ∷ 0x00 ∷ 0x00 ∷ []) 4
+    ∷ hears (0x61 ∷ 0x4a ∷ 0x00 ∷ 0x00 ∷ 0x21 ∷ 0x40 ∷ 0x05 ∷ 0x04 ∷ 0x00 ∷ 0x00 ∷ 0x00 ∷ 0x00 ∷ 0x00 ∷ 0x00 ∷ []) 4
+    ∷ hears (0x61 ∷ 0x42 ∷ 0x00 ∷ 0x00 ∷ 0x01 ∷ 0x40 ∷ 0x05 ∷ 0x04 ∷ 0x00 ∷ 0x00 ∷ 0x00 ∷ 0x00 ∷ 0x00 ∷ 0x00 ∷ []) 5
+    ∷ hears (0x61 ∷ 0x40 ∷ 0x00 ∷ 0x00 ∷ 0x01 ∷ 0x60 ∷ 0x05 ∷ 0x04 ∷ 0x00 ∷ 0x00 ∷ 0x00 ∷ 0x00 ∷ 0x00 ∷ 0x00 ∷ []) 2
+    ∷ hears (0x61 ∷ 0x40 ∷ 0x00 ∷ 0x00 ∷ 0x21 ∷ 0x50 ∷ 0x01 ∷ 0x04 ∷ 0x00 ∷ 0x00 ∷ 0x00 ∷ 0x00 ∷ 0x00 ∷ 0x00 ∷ []) 6
+    ∷ hears (0x61 ∷ 0x40 ∷ 0x00 ∷ 0x00 ∷ 0x21 ∷ 0x40 ∷ 0x01 ∷ 0x04 ∷ 0x00 ∷ 0x00 ∷ 0x00 ∷ 0x00 ∷ 0x00 ∷ 0x00 ∷ []) 7
+    ∷ hears (0x61 ∷ 0x80 ∷ 0x2c ∷ 0x68 ∷ 0x00 ∷ 0x00 ∷ 0x00 ∷ 0x00 ∷ 0x00 ∷ 0x00 ∷ 0x00 ∷ 0x00 ∷ 0x00 ∷ 0x00 ∷ []) 6
+    -- the bit after a Continue's type is skipped
+    ∷ hears (0x61 ∷ 0x88 ∷ 0x28 ∷ 0x00 ∷ 0x00 ∷ 0x00 ∷ 0x00 ∷ 0x00 ∷ 0x00 ∷ 0x00 ∷ 0x00 ∷ 0x00 ∷ 0x00 ∷ 0x00 ∷ []) 0
+    ∷ packing (numbering Pch 128 0 26) 3
+    ∷ packing (numbering Arch 128 0 26) 11
+    ∷ packing (numbering Arch 127 0 26) 12
+    -- a Continue's type is cut to its low two bits
+    ∷ packing (numbering Arch 127 4 25) 0
+    ∷ packing (full 128 (Tmsi20 0) 0 56) 11
+    ∷ packing (full 127 (Tmsi20 0) 0 56) 2
+    ∷ packing (full 127 (Min34 (2 ^ 34)) 0 56) 2
+    ∷ packing (full 127 (Tmsi20 1) 0 56) 13
+    ∷ packing (full 127 (Tmsi20 1) 6 55) 7
+    ∷ packing (full 127 (Tmsi20 1) 7 55) 0
+    ∷ cuts (header Pch false false false false 128 false Contention) (Tmsi20 0) 256 27 1 1
+    ∷ cuts (header Pch false false false false 128 false Contention) (Tmsi20 0) 255 27 3 3
+    ∷ cuts (echoing 128 false) (Tmsi20 0) 255 27 11 11
+    ∷ cuts (echoing 127 false) (Tmsi20 0) 255 27 2 2
+    ∷ cuts (echoing 127 false) (Tmsi20 1) 255 27 0 12
+    ∷ cuts (echoing 127 false) (Tmsi20 1) 255 26 0 0
+    ∷ []
+
+settled-refusals : T (all refusals)
+unfolding refusals bits value bitsOf octets field layout upTo anySet inRange encodable headerAAt addressAt packed beginFrame continueFrame encodeOf decodeOf countOf frameOf
+settled-refusals = tt
