@@ -1,15 +1,15 @@
 // The sender: up to 128 transfers, in the order in which they are served, and the events of those that ended. A call with a
 // clock is lent the messages' octets (`store`) and the frames' submissions (`words`).
-pub mod cancel;
-pub mod clock;
-pub mod enqueue;
-pub mod fresh;
-pub mod prepare;
-pub mod refresh;
-pub mod status;
-pub mod submit;
-pub mod table;
-pub mod walk;
+mod cancel;
+mod clock;
+mod enqueue;
+mod fresh;
+mod prepare;
+mod refresh;
+mod status;
+mod submit;
+mod table;
+mod walk;
 
 use cancel::all_cancelled;
 use cancel::cancel_first;
