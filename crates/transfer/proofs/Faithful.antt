@@ -83,13 +83,14 @@ stored-other o n message i k h size low ne = ⊎-elim (λ t. before (ltb-true i 
 
 -- ---- what holds after a list of calls
 
--- a parcel is an accepted request's, and its part of the lent octets holds the message
+-- a parcel is an accepted request's, with its deadline, and its part of the lent octets holds the message
 record From (v : View) (m : Lent) (calls : List Call) (octets : List ℕ) (p : Parcel) : Type 0 where
   request : Request
   message : List ℕ
   accepted : Accepts v m calls request message (p .owner)
   identity : p .identity ≡ request .identity
   channel : p .channel ≡ request .channel
+  deadline : p .«deadline_ms» ≡ request .«deadline_ms»
   held : take (p .octets) (drop (255 * p .n) octets) ≡ message
 
 -- a frame is one of the transfer, polled or not, by the lent octets
@@ -119,7 +120,7 @@ cut-front : (octets : List ℕ) (x : Transfer) (p : PackedFrame) (submission : �
 cut-front octets x p submission e = record { generation = refl; echo = refl; identity = refl; polling = oneLeft (x .sets .queue); packed = e }
 
 -- an acceptance stays one when more is called
-accepts-more : (v : View) (m : Lent) (calls more : List Call) (r : Request) (message : List ℕ) (t : TransferToken) → Accepts v m calls r message t → Accepts v m (calls ++ more) r message t
+pub accepts-more : (v : View) (m : Lent) (calls more : List Call) (r : Request) (message : List ℕ) (t : TransferToken) → Accepts v m calls r message t → Accepts v m (calls ++ more) r message t
 accepts-more v m calls more r message t a =
     record {
       earlier = a .earlier;
@@ -139,6 +140,7 @@ from-more v m calls more octets new p e h =
       accepted = accepts-more v m calls more (h .request) (h .message) (p .owner) (h .accepted);
       identity = h .identity;
       channel = h .channel;
+      deadline = h .deadline;
       held = e ∙ h .held;
     }
 
@@ -226,7 +228,7 @@ module _ (v : View) (m : Lent) where
         k = holds-more calls (c ∷ []) (lent .octets) o u apart h
 
         new : From v m (calls ++ c ∷ []) o (y .parcel)
-        new = record { request = r; message = message; accepted = a; identity = refl; channel = refl; held = stored-own (lent .octets) n message low }
+        new = record { request = r; message = message; accepted = a; identity = refl; channel = refl; deadline = refl; held = stored-own (lent .octets) n message low }
 
     -- a request that passes
     accepts-holds : (g : Grant) → 32640 ≤ length (lent .octets) → Sound (accepts w lent r message g .sender) → Holds calls (lent .octets) w → Left (accepts w lent r message g)
@@ -378,3 +380,16 @@ faithful v m calls c f fr e =
     let h = after-fresh v m calls fr in
     let k = said v m calls (at .0) (at .1) (h .1) c f e in
     traced v m calls (at .1 .octets) (does (at .0) (at .1) c .sender) f (k .0) (k .1)
+
+-- a transfer with the request and the message that were accepted under its owner's token: its deadline is the request's
+abbrev pub Ordered : View → Lent → List Call → Transfer → Type 0
+Ordered v m calls x = (r : Request) × (message : List ℕ) × Accepts v m calls r message (x .parcel .owner) × (x .parcel .«deadline_ms» ≡ r .«deadline_ms»)
+
+-- every transfer is so after a call that prepares a frame
+pub ordered : (v : View) (m : Lent) (calls : List Call) (c : Call) (f : PreparedFrame) → Fresh v →
+    let at = runAlone v m calls in
+    let d = does (at .0) (at .1) c in
+    d .frame ≡ some f → All (Ordered v m calls) (d .sender .transfers)
+ordered v m calls c f fr e =
+    let at = runAlone v m calls in
+    all-map (λ x h. (h .request, h .message, h .accepted, h .deadline)) (said v m calls (at .0) (at .1) (after-fresh v m calls fr .1) c f e .0 .0)

@@ -17,6 +17,7 @@ pub mod Listed
 pub mod Literal
 pub mod Lives
 pub mod Once
+pub mod Orders
 pub mod Remarks
 pub mod Samples
 pub mod Settled

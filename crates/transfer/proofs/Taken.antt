@@ -59,9 +59,11 @@ Of v x = Some (SameParcel x) (v .transfers)
 abbrev Comes : (now : ℕ) → View → Transfer → Type 0
 Comes now v x = Of v x ⊎ ((holdOf v (x .echo) ≤ now) × (now < x .parcel .«deadline_ms»))
 
--- the second sender, at this time, was made of the first: no echo is held shorter, and each transfer comes from the first so
+-- the second sender, at this time, was made of the first: the time is not before, no echo is held shorter, and each transfer comes
+-- from the first so
 pub record Within (now : ℕ) (v w : View) : Type 0 where
   pub limits : w .limits ≡ v .limits
+  pub since : v .clock .«last_ms» ≤ now
   pub clock : w .clock .«last_ms» ≡ now
   pub holds : (echo : ℕ) → holdOf v echo ≤ holdOf w echo
   pub comes : All (Comes now v) (w .transfers)
@@ -88,6 +90,7 @@ then : (now : ℕ) (v u w : View) → Within now v u → Within (u .clock .«las
 then now v u w h k =
     record {
       limits = k .limits ∙ h .limits;
+      since = h .since;
       clock = k .clock ∙ h .clock;
       holds = λ echo. let a = h .holds echo in let b = k .holds echo in omega arith;
       comes = all-map go (k .comes);
@@ -107,7 +110,7 @@ closes now v w h = subst (λ n. Within n v w) (sym (h .clock)) h
 
 -- a sender whose echoes are the same, and whose transfers were there
 quiet : (v w : View) → w .limits ≡ v .limits → w .clock ≡ v .clock → w .echoes ≡ v .echoes → All (Of v) (w .transfers) → Part v w
-quiet v w l c e t = record { limits = l; clock = ap (λ (k : Clock). k .«last_ms») c; holds = λ echo. rw e (omega arith); comes = all-map (λ x o. inl o) t }
+quiet v w l c e t = record { limits = l; since = omega arith; clock = ap (λ (k : Clock). k .«last_ms») c; holds = λ echo. rw e (omega arith); comes = all-map (λ x o. inl o) t }
 
 -- with another selection, other events or another next token
 still : (v w : View) → w .limits ≡ v .limits → w .clock ≡ v .clock → w .echoes ≡ v .echoes → w .transfers ≡ v .transfers → Part v w
@@ -121,7 +124,7 @@ self v = still v v refl refl refl refl
 ticked-within : (v : View) (block now : ℕ) {w : View} → ticked v block now ≡ gives w → Within now v w
 ticked-within v block now {w} e =
     let t = ticked-gives v block now e in
-    subst (Within now v) (sym (t .0)) (record { limits = refl; clock = refl; holds = λ echo. omega arith; comes = all-map (λ x o. inl o) (each-of (v .transfers)) })
+    subst (Within now v) (sym (t .0)) (record { limits = refl; since = t .2; clock = refl; holds = λ echo. omega arith; comes = all-map (λ x o. inl o) (each-of (v .transfers)) })
 
 -- a sender that is let through
 admitted-within : (v : View) (m : Lent) (block now : ℕ) {w : View} → admitted v m block now ≡ gives w → Within now v w
@@ -174,6 +177,7 @@ module _ (v : View) (x : Transfer) (rest : List Transfer) (h : Sound (behind v (
       let d = leb-false (x .parcel .«deadline_ms») (v .clock .«last_ms») due in
       record {
         limits = refl;
+        since = omega arith;
         clock = refl;
         holds = hold-grows (v .echoes) echo (heldUntil (v .limits) (x .parcel .«deadline_ms»)) (h .echoes) (f .0) (omega arith);
         comes = subst (All (Comes (v .clock .«last_ms») before)) (sym (append-assoc (v .transfers) (y ∷ []) rest)) (all-in (v .transfers) y rest (inr (f .1, d)) (all-map (λ z o. inl o) others));
@@ -277,6 +281,7 @@ accepts-within v m r message g p h =
         let y = begun (parcelOf r message (g .frames) (lowestN (w .transfers)) (v .«next_token»)) (g .echo) (v .«next_token») in
         record {
           limits = l;
+          since = omega arith;
           clock = ap (λ (k : Clock). k .«last_ms») c;
           holds = λ echo. rw e (hold-grows (v .echoes) (g .echo) until (h .echoes) (f .0) (omega arith) echo);
           comes = all-back (w .transfers) y (inr (f .1, d)) (all-map (λ x o. inl o) t);

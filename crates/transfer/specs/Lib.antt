@@ -2,8 +2,9 @@
 -- of; then Advance, the walk that most calls begin with; then the calls, in the order of the Rust: Enqueue, Prepare, Submitted,
 -- Status, Cancel, Refresh, Queries. In each file the call's own definition, of its name and `Of`, comes last. Numbers gives 01's
 -- numbers. Invariant says what every sender is that the calls make, History what holds over lists of calls: echoes are not taken
--- while they are held, and every frame is one of its own order's. Believe State's records, and in each file what its first lines
--- name; the rest follows from them. Literal is the Rust step by step where the definitions are shorter. Sought serves the code alone.
+-- while they are held, and every frame is one of its own order's; Gate joins that to what a receiver hears and delivers. Believe
+-- State's records, and in each file what its first lines name; the rest follows from them. Literal is the Rust step by step where the
+-- definitions are shorter. Sought serves the code alone.
 pub mod Lists
 pub mod Queue
 pub mod State
@@ -22,3 +23,4 @@ pub mod Invariant
 pub mod Sought
 pub mod Literal
 pub mod History
+pub mod Gate
