@@ -10,6 +10,7 @@ pub mod Faithful
 pub mod Framed
 pub mod Frames
 pub mod Fresh
+pub mod Gate
 pub mod Holds
 pub mod Instance
 pub mod Kept

@@ -1,0 +1,310 @@
+-- A gate that hears a sender in time gets its own order. Assumes nothing.
+use mathlib.Core.Path.{_≡_, refl, sym, ap, subst, _∙_}
+use mathlib.Core.Logic.{_⊎_, inl, inr, ⊎-elim}
+use mathlib.Core.Bool.{Bool, true, not}
+use mathlib.Core.List.{List, [], _∷_, _++_, List·Memᴰ, Memᴰ·append-right, head-eq-of-cons-eq, tail-eq-of-cons-eq}
+use mathlib.Core.List.List·Memᴰ.{List·Memᴰ·head}
+use mathlib.Core.Option.{some}
+use Prim.Native.Nat.{ℕ, zero, suc, _+_, _≤_, _<_}
+use native.Mathlib.Omega.{arith}
+use lib.Dec.{eqb, ltb}
+use lib.ListN.{length, take, drop, length-take}
+use borrow.Author.Tests.{eq-eqb, eqb-true, eqb-false, ltb-true, ltb-false, not-false}
+use Rattle.field.specs.Bits.{bitsOf}
+use Rattle.field.specs.Layout.{upTo}
+use Rattle.field.proofs.Cuts.{upTo-of-take, upTo-twice, bitsOf-filled}
+use Rattle.rach.specs.Identity.{encodable}
+use Rattle.rach.specs.declared.MobileIdentity.{MobileIdentity}
+use Rattle.spach.specs.declared.Channel.{Channel}
+use Rattle.spach.specs.Refusal.{Outcome, gives, refuses, andThen}
+use Rattle.spach.specs.Header.{usageOf}
+use Rattle.spach.proofs.Outcomes.{passed, then-gives}
+use Rattle.arq.specs.declared.FrameKind.the-variants.{Begin, Continue}
+use Rattle.arq.specs.declared.ArqHeader.{ArqHeader}
+use Rattle.arq.specs.declared.ArqFrame.{ArqFrame}
+use Rattle.arq.specs.declared.PackedFrame.{PackedFrame}
+use Rattle.arq.specs.Frame.{room, beginData, continueData}
+use Rattle.arq.specs.Encode.{encodeOf}
+use Rattle.arq.specs.Decode.{decodeOf}
+use Rattle.arq.specs.Cut.{continues, cutFrame, frameOf}
+use Rattle.arq.specs.Round.{widened}
+use Rattle.arq.proofs.Cuts.{room-most, begin-holds}
+use Rattle.arq.proofs.Fragments.{counted}
+use Rattle.arq.proofs.Round.{header-accepted}
+use Rattle.arq.proofs.Theorems.{cut-decodes}
+use Rattle.receiver.specs.declared.ArqReassembler.{ArqReassembler}
+use Rattle.receiver.specs.declared.Delivery.the-variants.{Nothing, Message}
+use Rattle.receiver.specs.declared.Reception.{Reception}
+use Rattle.receiver.specs.declared.Reception.the-variants.{Ignored, Accepted}
+use Rattle.receiver.specs.Receiver as receivers
+use Rattle.receiver.specs.Receiver.{Out, sameOctets, pushOf, statusAnswer}
+use Rattle.receiver.specs.Demand3.{Push, CutFrom, Such, OfCut, Fitting, Delivered, Undelivered, Delivers, Silent, runs, Holds}
+use Rattle.receiver.proofs.Heard.{frame-is}
+use Rattle.receiver.proofs.Ways.{by-bool, true-false, same-octets, kinds-apart}
+use Rattle.receiver.proofs.Whole.{demand3}
+use Rattle.transfer.specs.declared.Request.{Request}
+use Rattle.transfer.specs.declared.Transfer.{Transfer}
+use Rattle.transfer.specs.declared.PreparedFrame.{PreparedFrame}
+use Rattle.transfer.specs.State.{View, Lent, newOf}
+use Rattle.transfer.specs.Transfer.{headerOf}
+use Rattle.transfer.specs.History.{Call, Enqueue, Fresh, Accepts, IsFrameOf, Traced}
+use Rattle.transfer.specs.Gate.{doing, Sent, timesOf, InTime, Listens, GetsOwn, InOctets, Gate}
+use Rattle.transfer.proofs.Faithful.{accepts-more, faithful}
+use Rattle.transfer.proofs.Remarks.{cut-gives}
+use Rattle.transfer.proofs.Orders.{hold-late, between-later, first-of-second, one-order}
+
+-- ---- what a prepared frame decodes to
+
+-- polled or not, the cut gives its frames
+cut-polled : (channel : Channel) (echo : ℕ) (p q : Bool) (i : MobileIdentity) (m : List ℕ) (k : ℕ) {f : ArqFrame} → frameOf (headerOf channel echo p) i m k ≡ gives f
+    → (length m ≤ 255) × (frameOf (headerOf channel echo q) i m k ≡ gives (cutFrame (headerOf channel echo q) i m k))
+unfolding frameOf
+cut-polled channel echo p q i m k e =
+    let x = passed (ltb 255 (length m)) 1 _ e in
+    let y = header-accepted (headerOf channel echo p) _ (x .1) in
+    let z = passed (not (encodable i)) 2 _ (y .2) in
+    let w = passed (not (ltb k (1 + continues i (length m)))) 12 _ (z .1) in
+    let l = ltb-false 255 (length m) (x .0) in
+    let n : echo < 128 = let a = y .1 in omega arith in
+    (l, cut-gives (headerOf channel echo q) i m k l (eqb-false (usageOf channel) 7 (y .0)) n (not-false (encodable i) (z .0)) (ltb-true k (1 + continues i (length m)) (not-false _ (w .0))))
+
+-- the frame g is frame k of this cut, polled or not, as it is heard
+record Airs (channel : Channel) (echo : ℕ) (i : MobileIdentity) (m : List ℕ) (k : ℕ) (g : ArqFrame) : Type 0 where
+  polling : Bool
+  cut : frameOf (headerOf channel echo polling) i m k ≡ gives (cutFrame (headerOf channel echo polling) i m k)
+  same : g ≡ widened (cutFrame (headerOf channel echo polling) i m k)
+
+-- so is what a prepared frame decodes to
+airs : (f : PreparedFrame) (x : Transfer) (r : Request) (m : List ℕ) (g : ArqFrame) → IsFrameOf f x r m → decodeOf (f .octets) ≡ gives g → Airs (r .channel) (x .echo) (r .identity) m (f .token .frame) g
+airs f x r m g h e =
+    let c = headerOf (r .channel) (x .echo) (h .polling) in
+    let k = f .token .frame in
+    let t = then-gives (frameOf c (r .identity) m k) encodeOf (h .octets) in
+    let n = t .0 in
+    let s : n ≡ cutFrame c (r .identity) m k = frame-is c (r .identity) m k (t .1) .0 in
+    let b : decodeOf (f .octets) ≡ gives (widened n) = sym (ap (λ (o : Outcome PackedFrame). andThen o (λ p. decodeOf (p .octets))) (t .2)) ∙ cut-decodes c (r .identity) m k n (t .1) in
+    let q : g ≡ widened n = let z = sym e ∙ b in cc in
+    record { polling = h .polling; cut = t .1 ∙ ap gives s; same = q ∙ ap widened s }
+
+-- its header is the cut's
+cut-header : (h : ArqHeader) (i : MobileIdentity) (m : List ℕ) (k : ℕ) → widened (cutFrame h i m k) .header ≡ h
+cut-header h i m zero = refl
+cut-header h i m (suc k) = refl
+
+-- so its echo is
+airs-echo : {channel : Channel} {echo : ℕ} {i : MobileIdentity} {m : List ℕ} {k : ℕ} {g : ArqFrame} → Airs channel echo i m k g → g .header .«partial_echo» ≡ echo
+airs-echo {channel} {echo} {i} {m} {k} a = ap (λ (f : ArqFrame). f .header .«partial_echo») (a .same) ∙ ap (λ (h : ArqHeader). h .«partial_echo») (cut-header (headerOf channel echo (a .polling)) i m k)
+
+-- a Begin that is heard is cut from the message
+begin-cut : (channel : Channel) (echo : ℕ) (i : MobileIdentity) (m : List ℕ) (k : ℕ) (g : ArqFrame) → g .kind ≡ Begin → (a : Airs channel echo i m k g) → (g .identity ≡ i) × CutFrom (headerOf channel echo (a .polling)) i m g
+begin-cut channel echo i m (suc k) g e a = absurd (kinds-apart e (ap (λ (f : ArqFrame). f .kind) (a .same)))
+begin-cut channel echo i m zero g e a =
+    let h = headerOf channel echo (a .polling) in
+    let bs : List Bool = take (room i) (bitsOf m) in
+    let short : length bs ≤ 56 = simp length-take (omega (arith, room-most i)) in (
+      ap (λ (f : ArqFrame). f .identity) (a .same),
+      record {
+        frame = cutFrame h i m 0;
+        first = a .cut;
+        identity = ap (λ (f : ArqFrame). f .identity) (a .same);
+        echo = ap (λ (f : ArqFrame). f .header .«partial_echo») (a .same);
+        channel = ap (λ (f : ArqFrame). f .header .channel) (a .same);
+        octets = ap (λ (f : ArqFrame). f .«message_octets») (a .same);
+        data-bits =
+            ap (λ (f : ArqFrame). upTo (room i) (beginData f)) (a .same)
+            ∙ ap (λ (l : List Bool). upTo (room i) (take (room i) l)) (bitsOf-filled 7 bs)
+            ∙ upTo-of-take (room i) (upTo 56 bs)
+            ∙ upTo-twice (room i) 56 bs short
+            ∙ ap (upTo (room i)) (sym (begin-holds h i m));
+      },
+    )
+
+-- a Continue that is heard is one of the cut's, under the Begin's header too
+continue-cut : (channel : Channel) (echo : ℕ) (p : Bool) (i : MobileIdentity) (m : List ℕ) (k : ℕ) (g : ArqFrame) → g .kind ≡ Continue → Airs channel echo i m k g → OfCut (headerOf channel echo p) i m g
+continue-cut channel echo p i m zero g e a = absurd (kinds-apart (ap (λ (f : ArqFrame). f .kind) (a .same)) e)
+continue-cut channel echo p i m (suc k) g e a =
+    record {
+      k = k;
+      frame = cutFrame (headerOf channel echo p) i m (suc k);
+      next = cut-polled channel echo (a .polling) p i m (suc k) (a .cut) .1;
+      number = ap (λ (f : ArqFrame). f .«frame_number») (a .same);
+      data-bits = ap continueData (a .same);
+    }
+
+-- ---- a message or none
+
+-- a list has the same octets as itself
+octets-same : (a : List ℕ) → sameOctets a a ≡ true
+octets-same [] = refl
+octets-same (x ∷ a) = rw (eq-eqb x x refl) (octets-same a)
+
+-- lists are equal, if they cannot differ
+stable-list : (a b : List ℕ) → ((a ≡ b → ⊥) → ⊥) → a ≡ b
+stable-list a b h = ⊎-elim (same-octets a b) (λ e. absurd (h (λ q. true-false (subst (λ c. sameOctets a c ≡ true) q (octets-same a)) e))) (by-bool (sameOctets a b))
+
+-- and so are numbers
+stable : (a b : ℕ) → ((a ≡ b → ⊥) → ⊥) → a ≡ b
+stable a b h = ⊎-elim (eqb-true a b) (λ e. absurd (h (eqb-false a b e))) (by-bool (eqb a b))
+
+-- what delivers a message where something comes, and is silent where it does not, does the one or the other
+either : {A : Type 0} (m b : List ℕ) (o : Out) → (A → Delivers m b o) → ((A → ⊥) → Silent b o) → Delivers m b o ⊎ Silent b o
+either {A} m b o given none-given = go (o .outcome) refl
+  where
+    -- no message came
+    quiet : (Delivered (length m) (o .outcome) → ⊥) → Delivers m b o ⊎ Silent b o
+    quiet k = inr (none-given (λ a. k (given a .answer)))
+
+    go : (x : Outcome Reception) → o .outcome ≡ x → Delivers m b o ⊎ Silent b o
+    go (gives (Accepted (Message d) r)) e =
+        let not-silent : Silent b o → ⊥ = λ s. subst Undelivered e (s .answer) in
+        inl (record {
+          answer = subst (Delivered (length m)) (sym e) (stable (d .length) (length m) (λ k. not-silent (none-given (λ a. k (subst (Delivered (length m)) e (given a .answer))))));
+          buffer = stable-list (o .buffer) (m ++ drop (length m) b) (λ k. not-silent (none-given (λ a. k (given a .buffer))));
+        })
+    go (gives (Accepted Nothing r)) e = quiet (λ h. subst (Delivered (length m)) e h)
+    go (gives Ignored) e = quiet (λ h. subst (Delivered (length m)) e h)
+    go (refuses n) e = quiet (λ h. subst (Delivered (length m)) e h)
+
+-- ---- one sender
+
+-- two places of a list: one, or the second after the first, or before it
+places : (a b c d : List Call) (x y : Call) → a ++ x ∷ b ≡ c ++ y ∷ d → ((a ≡ c) × (x ≡ y)) ⊎ (((e : List Call) × (c ≡ a ++ x ∷ e)) ⊎ ((e : List Call) × (a ≡ c ++ y ∷ e)))
+places [] b [] d x y q = inl (refl, head-eq-of-cons-eq q)
+places [] b (z ∷ c) d x y q = inr (inl (c, ap (λ (w : Call). w ∷ c) (sym (head-eq-of-cons-eq q))))
+places (z ∷ a) b [] d x y q = inr (inr (a, ap (λ (w : Call). w ∷ a) (head-eq-of-cons-eq q)))
+places (z ∷ a) b (w ∷ c) d x y q = go (head-eq-of-cons-eq q) (places a b c d x y (tail-eq-of-cons-eq q))
+  where
+    go : z ≡ w → ((a ≡ c) × (x ≡ y)) ⊎ (((e : List Call) × (c ≡ a ++ x ∷ e)) ⊎ ((e : List Call) × (a ≡ c ++ y ∷ e)))
+        → ((z ∷ a ≡ w ∷ c) × (x ≡ y)) ⊎ (((e : List Call) × (w ∷ c ≡ z ∷ (a ++ x ∷ e))) ⊎ ((e : List Call) × (z ∷ a ≡ w ∷ (c ++ y ∷ e))))
+    go h (inl s) = let i = s .0 in inl (cc, s .1)
+    go h (inr (inl s)) = let i = s .1 in inr (inl (s .0, cc))
+    go h (inr (inr s)) = let i = s .1 in inr (inr (s .0, cc))
+
+module _ (v : View) (m : Lent) (calls : List Call) (fr : Fresh v) where
+  -- what was sent is traced
+  trace : {f : ArqFrame} (s : Sent v m calls f) → Traced v m (s .earlier) (doing v m (s .earlier) (s .call) .sender) (s .frame)
+  trace s = faithful v m (s .earlier) (s .call) (s .frame) fr (s .prepared)
+
+  -- it is heard so
+  sent-airs : {f : ArqFrame} (s : Sent v m calls f) → let t = trace s in Airs (t .request .channel) (t .transfer .echo) (t .request .identity) (t .message) (s .frame .token .frame) f
+  sent-airs {f} s = let t = trace s in airs (s .frame) (t .transfer) (t .request) (t .message) f (t .frame) (s .decodes)
+
+  -- under its own echo
+  sent-echo : {f : ArqFrame} (s : Sent v m calls f) → s .frame .«partial_echo» ≡ f .header .«partial_echo»
+  sent-echo s = trace s .frame .echo ∙ sym (airs-echo (sent-airs s))
+
+  -- its echo is held for longer than a guard
+  sent-held : {f : ArqFrame} (s : Sent v m calls f) → timesOf s .prepared + timesOf s .guard < timesOf s .until
+  sent-held s = hold-late v m (s .earlier) (s .call) (s .frame) fr (s .prepared)
+
+  -- what is prepared after a Begin was not prepared too long before it
+  pub after-begin : {b f : ArqFrame} (s : Sent v m calls b) (u : Sent v m calls f) (e : List Call) → u .earlier ≡ s .earlier ++ s .call ∷ e → timesOf s .prepared ≤ timesOf u .prepared + timesOf u .guard
+  after-begin s u e a =
+      let h : timesOf s .prepared ≤ timesOf u .prepared = subst (λ l. timesOf s .prepared ≤ doing v m l (u .call) .sender .clock .«last_ms») (sym a) (between-later v m (s .earlier) e (s .call) (u .call) (s .frame) (u .frame) fr .since) in
+      omega arith
+
+  module _ {b f : ArqFrame} (s : Sent v m calls b) (u : Sent v m calls f) (q : u .frame .«partial_echo» ≡ s .frame .«partial_echo») (n : InTime (timesOf s) (timesOf u)) where
+    -- the order of the first
+    abbrev OfFirst : Type 0
+    OfFirst = IsFrameOf (u .frame) (trace s .transfer) (trace s .request) (trace s .message)
+
+    -- both were prepared by one call
+    same-call : s .earlier ≡ u .earlier → s .call ≡ u .call → OfFirst
+    same-call a c =
+        let h : doing v m (s .earlier) (s .call) .frame ≡ some (u .frame) = subst (λ l. doing v m l (s .call) .frame ≡ some (u .frame)) (sym a) (subst (λ d. doing v m (u .earlier) d .frame ≡ some (u .frame)) (sym c) (u .prepared)) in
+        let e : s .frame ≡ u .frame = let z = sym (s .prepared) ∙ h in cc in
+        subst (λ g. IsFrameOf g (trace s .transfer) (trace s .request) (trace s .message)) e (trace s .frame)
+
+    -- the second by a later one
+    later-call : (e : List Call) → u .earlier ≡ s .earlier ++ s .call ∷ e → OfFirst
+    later-call e a =
+        one-order v m (s .earlier) e (s .call) (u .call) (s .frame) (u .frame) fr (s .prepared)
+        (subst (λ l. doing v m l (u .call) .frame ≡ some (u .frame)) a (u .prepared)) q
+        (subst (λ l. doing v m l (u .call) .sender .clock .«last_ms» < timesOf s .until) a (n .1)) (trace s)
+
+    -- or by an earlier one
+    earlier-call : (e : List Call) → s .earlier ≡ u .earlier ++ u .call ∷ e → OfFirst
+    earlier-call e a =
+        subst
+        (λ l. (t : Traced v m l (doing v m l (s .call) .sender) (s .frame)) → doing v m l (s .call) .sender .clock .«last_ms» ≤ timesOf u .prepared + timesOf u .guard → IsFrameOf (u .frame) (t .transfer) (t .request) (t .message))
+        (sym a)
+        (λ t z. let h = sent-held u in first-of-second v m (u .earlier) e (u .call) (s .call) (u .frame) (s .frame) fr (u .prepared) (sym q) (omega arith) (trace u) t)
+        (trace s) (n .0)
+
+    -- in any case the second is a frame of that order
+    in-order : OfFirst
+    in-order =
+        ⊎-elim (λ p. same-call (p .0) (p .1)) (λ p. ⊎-elim (λ r. later-call (r .0) (r .1)) (λ r. earlier-call (r .0) (r .1)) p)
+        (places (s .earlier) (s .later) (u .earlier) (u .later) (s .call) (u .call) (sym (s .split) ∙ u .split))
+
+  module _ (oc : InOctets calls) (i : MobileIdentity) (b : ArqFrame) (l : List Push) (h : Listens (Sent v m calls) (λ f s. timesOf s) i b l) where
+    -- the Begin's order
+    abbrev order : Traced v m (h .begin .earlier) (doing v m (h .begin .earlier) (h .begin .call) .sender) (h .begin .frame)
+    order = trace (h .begin)
+
+    -- the Begin as it is heard
+    begins : Airs (order .request .channel) (order .transfer .echo) (order .request .identity) (order .message) (h .begin .frame .token .frame) b
+    begins = sent-airs (h .begin)
+
+    -- it is cut from that order's message
+    cut : (b .identity ≡ order .request .identity) × CutFrom (headerOf (order .request .channel) (order .transfer .echo) (begins .polling)) (order .request .identity) (order .message) b
+    cut = begin-cut (order .request .channel) (order .transfer .echo) (order .request .identity) (order .message) (h .begin .frame .token .frame) b (h .own .kind) begins
+
+    -- which is for the gate
+    for-gate : order .request .identity ≡ i
+    for-gate = sym (cut .0) ∙ h .own .identity
+
+    -- it was accepted
+    accepted : Accepts v m calls (order .request) (order .message) (order .transfer .parcel .owner)
+    accepted =
+        subst (λ k. Accepts v m k (order .request) (order .message) (order .transfer .parcel .owner)) (sym (h .begin .split))
+        (accepts-more v m (h .begin .earlier) (h .begin .call ∷ h .begin .later) (order .request) (order .message) (order .transfer .parcel .owner) (order .accepted))
+
+    -- each such Continue is one of its cut
+    piece : (f : ArqFrame) → List·Memᴰ f (h .rest) → Such i b f → OfCut (headerOf (order .request .channel) (order .transfer .echo) (begins .polling)) i (order .message) f
+    piece f j su =
+        let p = h .pieces f j su in
+        let u = p .0 in
+        let q : u .frame .«partial_echo» ≡ h .begin .frame .«partial_echo» = sent-echo u ∙ (su .echo ∙ sym (sent-echo (h .begin))) in
+        let a = airs (u .frame) (order .transfer) (order .request) (order .message) f (in-order (h .begin) u q (p .1)) (u .decodes) in
+        subst (λ z. OfCut (headerOf (order .request .channel) (order .transfer .echo) (begins .polling)) z (order .message) f) for-gate
+        (continue-cut (order .request .channel) (order .transfer .echo) (begins .polling) (order .request .identity) (order .message) (u .frame .token .frame) f (su .kind) a)
+
+    -- so the list fits
+    fitting : Fitting i (order .message) b l
+    fitting =
+        record {
+          octets = oc (order .request) (order .message) (accepted .block) (accepted .ms) (subst (List·Memᴰ (Enqueue (order .request) (order .message) (accepted .block) (accepted .ms))) (sym (accepted .split)) (Memᴰ·append-right (accepted .earlier) (List·Memᴰ·head refl)));
+          size = cut-polled (order .request .channel) (order .transfer .echo) (begins .polling) (begins .polling) (order .request .identity) (order .message) (h .begin .frame .token .frame) (begins .cut) .0;
+          rest = h .rest;
+          first = h .first;
+          own = h .own;
+          header = headerOf (order .request .channel) (order .transfer .echo) (begins .polling);
+          cut-from = subst (λ z. CutFrom (headerOf (order .request .channel) (order .transfer .echo) (begins .polling)) z (order .message) b) for-gate (cut .1);
+          lone = h .lone;
+          pieces = piece;
+        }
+
+    -- and demand 3 holds of it
+    holding : (s : ArqReassembler) → receivers.newOf i ≡ gives s → Holds receivers.newOf pushOf statusAnswer i (order .message) b (1 + continues i (length (order .message))) s l
+    holding s made = demand3 i (order .message) b s l made fitting (1 + continues i (length (order .message))) (counted (fitting .header) i (order .message) 0 (fitting .cut-from .first))
+
+    -- the gate gets its own order
+    gets-own : GetsOwn v m calls i b l
+    gets-own =
+        record {
+          request = order .request;
+          message = order .message;
+          token = order .transfer .parcel .owner;
+          accepted = accepted;
+          identity = for-gate;
+          fits = fitting;
+          holds = holding;
+          only = λ s made a p c e.
+              let k = holding s made .each a p c e in
+              either (order .message) (p .buffer) (pushOf (runs receivers.newOf pushOf statusAnswer s a) (p .octets) (p .buffer)) (k .completing) (k .others);
+        }
+
+-- a gate that hears one sender in time gets its own order
+pub gate : Gate
+gate v m calls i b l fr oc h = gets-own v m calls fr oc i b l h
