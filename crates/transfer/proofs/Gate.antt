@@ -1,14 +1,14 @@
--- A gate that hears a sender in time gets its own order. Assumes nothing.
+-- A gate that hears a sender in time gets its own order, and so does one that hears two, the second starting late. Assumes nothing.
 use mathlib.Core.Path.{_≡_, refl, sym, ap, subst, _∙_}
-use mathlib.Core.Logic.{_⊎_, inl, inr, ⊎-elim}
-use mathlib.Core.Bool.{Bool, true, not}
+use mathlib.Core.Logic.{_⊎_, inl, inr, ⊎-elim, _≢_}
+use mathlib.Core.Bool.{Bool, true, false, not, _||_}
 use mathlib.Core.List.{List, [], _∷_, _++_, List·Memᴰ, Memᴰ·append-right, head-eq-of-cons-eq, tail-eq-of-cons-eq}
 use mathlib.Core.List.List·Memᴰ.{List·Memᴰ·head}
 use mathlib.Core.Option.{some}
 use Prim.Native.Nat.{ℕ, zero, suc, _+_, _≤_, _<_}
 use native.Mathlib.Omega.{arith}
 use lib.Dec.{eqb, ltb}
-use lib.ListN.{length, take, drop, length-take}
+use lib.ListN.{length, take, drop, replicate, getD, length-take}
 use borrow.Author.Tests.{eq-eqb, eqb-true, eqb-false, ltb-true, ltb-false, not-false}
 use Rattle.field.specs.Bits.{bitsOf}
 use Rattle.field.specs.Layout.{upTo}
@@ -45,13 +45,18 @@ use Rattle.receiver.proofs.Whole.{demand3}
 use Rattle.transfer.specs.declared.Request.{Request}
 use Rattle.transfer.specs.declared.Transfer.{Transfer}
 use Rattle.transfer.specs.declared.PreparedFrame.{PreparedFrame}
-use Rattle.transfer.specs.State.{View, Lent, newOf}
+use Rattle.transfer.specs.State.{Limits, View, Lent, fresh, newOf}
+use Rattle.transfer.specs.Echo.{heldUntil}
 use Rattle.transfer.specs.Transfer.{headerOf}
-use Rattle.transfer.specs.History.{Call, Enqueue, Fresh, Accepts, IsFrameOf, Traced}
-use Rattle.transfer.specs.Gate.{doing, Sent, timesOf, InTime, Listens, GetsOwn, InOctets, Gate}
+use Rattle.transfer.specs.History.{Call, Enqueue, does, Told, after, run, Fresh, Each, holdOf, Takes, Past, runAlone, Accepts, IsFrameOf, Traced}
+use Rattle.transfer.specs.Gate.{doing, Sent, timesOf, InTime, Listens, GetsOwn, InOctets, Gate, told, StartsLate, LateFrames, SentByTwo, timesOfTwo, GateOfTwo}
+use Rattle.transfer.proofs.Listed.{some-all}
+use Rattle.transfer.proofs.Lives.{fresh-kept}
+use Rattle.transfer.proofs.Taken.{taken-free}
+use Rattle.transfer.proofs.Holds.{only-taken}
 use Rattle.transfer.proofs.Faithful.{accepts-more, faithful}
 use Rattle.transfer.proofs.Remarks.{cut-gives}
-use Rattle.transfer.proofs.Orders.{hold-late, between-later, first-of-second, one-order}
+use Rattle.transfer.proofs.Orders.{doing-later, run-later, run-behind, hold-late, between-later, first-of-second, one-order}
 
 -- ---- what a prepared frame decodes to
 
@@ -308,3 +313,104 @@ module _ (v : View) (m : Lent) (calls : List Call) (fr : Fresh v) where
 -- a gate that hears one sender in time gets its own order
 pub gate : Gate
 gate v m calls i b l fr oc h = gets-own v m calls fr oc i b l h
+
+-- ---- two senders
+
+-- a call in the middle of a list, with what it is lent then
+each-told : (P : View → Told → Type 0) (w : View) (n : Lent) (a : List Call) (c : Call) (b : List Call) → Each P w (told w n (a ++ c ∷ b)) → let at = runAlone w n a in P (at .0) (at .1, c)
+unfolding Each told runAlone
+each-told P w n [] c b h = h .0
+each-told P w n (d ∷ a) c b h = let e = does w n d in each-told P (e .sender) (e .lent) a c b (h .1)
+
+-- the sender after calls so told
+run-told : (v : View) (m : Lent) (calls : List Call) → run v (told v m calls) ≡ runAlone v m calls .0
+unfolding run told runAlone
+run-told v m [] = refl
+run-told v m (c ∷ l) = let d = does v m c in run-told (d .sender) (d .lent) l
+
+-- an echo is not held longer than every taking of it says
+hold-past : (l : Limits) (echo time : ℕ) (v : View) (calls : List Told)
+    → Each (λ u c. (echo : ℕ) → holdOf (after u c) echo ≢ holdOf u echo → (deadline : ℕ) × Takes u c echo deadline) v calls
+    → Each (λ u c. (echo deadline : ℕ) → Takes u c echo deadline → (holdOf u echo ≤ after u c .clock .«last_ms») × (holdOf (after u c) echo ≡ heldUntil l deadline)) v calls
+    → Each (λ u c. (deadline : ℕ) → Takes u c echo deadline → heldUntil l deadline ≤ time) v calls
+    → holdOf v echo ≤ time → holdOf (run v calls) echo ≤ time
+unfolding Each run
+hold-past l echo time v [] o f p h = h
+hold-past l echo time v (c ∷ calls) o f p h = hold-past l echo time (after v c) calls (o .1) (f .1) (p .1) (⊎-elim same changed (by-bool (eqb (holdOf (after v c) echo) (holdOf v echo))))
+  where
+    same : eqb (holdOf (after v c) echo) (holdOf v echo) ≡ true → holdOf (after v c) echo ≤ time
+    same e = let q = eqb-true (holdOf (after v c) echo) (holdOf v echo) e in omega arith
+
+    changed : eqb (holdOf (after v c) echo) (holdOf v echo) ≡ false → holdOf (after v c) echo ≤ time
+    changed e =
+        let t = o .0 echo (eqb-false (holdOf (after v c) echo) (holdOf v echo) e) in
+        let q = f .0 echo (t .0) (t .1) .1 in
+        let r = p .0 (t .0) (t .1) in
+        omega arith
+
+-- zeros everywhere
+none-held : (n k : ℕ) → _≡_ {A = ℕ} (getD (replicate n 0) k 0) 0
+none-held zero k = refl
+none-held (suc n) zero = refl
+none-held (suc n) (suc k) = none-held n k
+
+-- a fresh sender holds no echo
+fresh-free : (v : View) → Fresh v → (echo : ℕ) → holdOf v echo ≡ 0
+unfolding newOf
+fresh-free v f echo =
+    let p = passed (eqb (f .capacity) 0 || ltb 128 (f .capacity)) 19 (gives (fresh (f .capacity) (f .guard) (f .first-block) (f .first))) (f .made) in
+    let z : fresh (f .capacity) (f .guard) (f .first-block) (f .first) ≡ v = let q = p .1 in cc in
+    subst (λ w. holdOf w echo ≡ 0) z (none-held 128 echo)
+
+-- what is asked of each call of the second sender
+abbrev Waits : (v : View) (m : Lent) (first : List Call) (w : View) → View → Told → Type 0
+Waits v m first w u c = w .limits .«startup_until_block» ≤ after u c .clock .«last_block» → Past v (told v m first) (after u c .clock .«last_ms»)
+
+-- a sender that starts late prepares no frame before every hold of the first has ended
+pub late-frames : LateFrames
+late-frames v w m n first earlier later c f fv fw h e echo =
+    let d = doing w n earlier c in
+    let k = doing-later w n earlier c (fresh-kept w fw) in
+    let u : w .limits .«startup_until_block» ≤ d .sender .clock .«last_block» =
+    some-all (λ z q l. subst (λ (x : Limits). x .«startup_until_block» ≤ d .sender .clock .«last_block») (k .1 .limits) (l .usable)) (faithful w n earlier c f fw e .live) (k .0 .transfers) in
+    let p : Past v (told v m first) (d .sender .clock .«last_ms») = each-told (Waits v m first w) w n earlier c later h u in
+    let z = fresh-free v fv echo in
+    subst (λ x. holdOf x echo ≤ d .sender .clock .«last_ms») (run-told v m first)
+    (hold-past (v .limits) echo (d .sender .clock .«last_ms») v (told v m first) (only-taken v (told v m first) fv) (taken-free v (told v m first) fv) (p echo) (omega arith))
+
+-- so of a frame that it sent
+sent-late : (v w : View) (m n : Lent) (first second : List Call) (f : ArqFrame) → Fresh v → Fresh w → StartsLate v m first w n second → (s : Sent w n second f) (echo : ℕ) → holdOf (runAlone v m first .0) echo ≤ timesOf s .prepared
+sent-late v w m n first second f fv fw h s echo = late-frames v w m n first (s .earlier) (s .later) (s .call) (s .frame) fv fw (subst (StartsLate v m first w n) (s .split) h) (s .prepared) echo
+
+-- until when an echo was held is not later than at the end
+until-end : (v : View) (m : Lent) (calls : List Call) (f : ArqFrame) → Fresh v → (s : Sent v m calls f) → timesOf s .until ≤ holdOf (runAlone v m calls .0) (s .frame .«partial_echo»)
+until-end v m calls f fr s =
+    let d = doing v m (s .earlier) (s .call) in
+    let h = doing-later v m (s .earlier) (s .call) (fresh-kept v fr) .0 in
+    subst (λ (at : View × Lent). timesOf s .until ≤ holdOf (at .0) (s .frame .«partial_echo»)) (sym (ap (runAlone v m) (s .split) ∙ run-behind v m (s .earlier) (s .call) (s .later)))
+    (run-later (d .sender) (d .lent) (s .later) h .1 .holds (s .frame .«partial_echo»))
+
+-- a gate that hears two senders, the second starting late, gets its own order of the one or of the other
+pub gate-of-two : GateOfTwo
+gate-of-two v w m n first second i b l fv fw ov ow late h = go (h .begin) (h .pieces)
+  where
+    go : (s : SentByTwo v w m n first second b) → ((f : ArqFrame) → List·Memᴰ f (h .rest) → Such i b f → (u : SentByTwo v w m n first second f) × InTime (timesOfTwo s) (timesOfTwo u)) → GetsOwn v m first i b l ⊎ GetsOwn w n second i b l
+    go (inl s) k = inl (gate v m first i b l fv ov (record { rest = h .rest; first = h .first; own = h .own; lone = h .lone; begin = s; pieces = λ f j su. own f (k f j su) }))
+      where
+        own : (f : ArqFrame) → (u : SentByTwo v w m n first second f) × InTime (timesOf s) (timesOfTwo u) → (u : Sent v m first f) × InTime (timesOf s) (timesOf u)
+        own f (inl u, t) = (u, t)
+        own f (inr u, t) =
+            let x = sent-late v w m n first second f fv fw late u (s .frame .«partial_echo») in
+            let y = until-end v m first b fv s in
+            let z = t .1 in
+            absurd (omega arith)
+    go (inr s) k = inr (gate w n second i b l fw ow (record { rest = h .rest; first = h .first; own = h .own; lone = h .lone; begin = s; pieces = λ f j su. own f (k f j su) }))
+      where
+        own : (f : ArqFrame) → (u : SentByTwo v w m n first second f) × InTime (timesOf s) (timesOfTwo u) → (u : Sent w n second f) × InTime (timesOf s) (timesOf u)
+        own f (inr u, t) = (u, t)
+        own f (inl u, t) =
+            let x = sent-late v w m n first second b fv fw late s (u .frame .«partial_echo») in
+            let y = until-end v m first f fv u in
+            let a = sent-held v m first fv u in
+            let z = t .0 in
+            absurd (omega arith)

@@ -1,9 +1,10 @@
 -- The request's own question: when can a gate not fill the gaps of its order with pieces of a neighbour's? Read `Sent`, `InTime` and
--- `Listens`, what is asked for; then the claims: `HeldFor` and `OneOrder` of the sender, and `Gate` of a gate that hears it. They are
--- proved in proofs/Orders.antt and Gate.antt. Assumes nothing.
+-- `Listens`, what is asked for; then the claims: `HeldFor` and `OneOrder` of the sender, `Gate` of a gate that hears one sender, and
+-- `GateOfTwo` of one that hears two, the second perhaps in the first one's place after a power failure. They are proved in
+-- proofs/Orders.antt and Gate.antt. Assumes nothing.
 use mathlib.Core.Path.{_≡_}
-use mathlib.Core.Logic.{_⊎_}
-use mathlib.Core.List.{List, _∷_, _++_, List·Memᴰ}
+use mathlib.Core.Logic.{_⊎_, inl, inr}
+use mathlib.Core.List.{List, [], _∷_, _++_, List·Memᴰ}
 use mathlib.Core.Option.{some}
 use Prim.Native.Nat.{ℕ, _+_, _≤_, _<_}
 use lib.ListN.{length}
@@ -21,7 +22,7 @@ use Rattle.transfer.specs.declared.Request.{Request}
 use Rattle.transfer.specs.declared.PreparedFrame.{PreparedFrame}
 use Rattle.transfer.specs.State.{View, Lent}
 use Rattle.transfer.specs.Echo.{heldUntil}
-use Rattle.transfer.specs.History.{Call, Enqueue, Done, does, Fresh, holdOf, runAlone, Accepts, IsFrameOf, Traced}
+use Rattle.transfer.specs.History.{Call, Enqueue, Done, does, Told, after, Fresh, Each, holdOf, Past, runAlone, Accepts, IsFrameOf, Traced}
 
 -- ---- the sender
 
@@ -115,3 +116,36 @@ InOctets calls = (r : Request) (message : List ℕ) (block now : ℕ) → List·
 abbrev pub Gate : Type 0
 Gate = (v : View) (m : Lent) (calls : List Call) (i : MobileIdentity) (b : ArqFrame) (l : List Push) → Fresh v → InOctets calls →
     Listens (Sent v m calls) (λ f s. timesOf s) i b l → GetsOwn v m calls i b l
+
+-- ---- two senders
+
+-- the calls of a sender, each with the lent memory as it is then
+unfoldable pub told : View → Lent → List Call → List Told
+told v m [] = []
+told v m (c ∷ l) = let d = does v m c in (m, c) ∷ told (d .sender) (d .lent) l
+
+-- the second sender starts late: the premise of `TwoSenders`
+abbrev pub StartsLate : (v : View) (m : Lent) (first : List Call) (w : View) (n : Lent) (second : List Call) → Type 0
+StartsLate v m first w n second =
+    Each (λ u c. w .limits .«startup_until_block» ≤ after u c .clock .«last_block» → Past v (told v m first) (after u c .clock .«last_ms»)) w (told w n second)
+
+-- such a sender prepares no frame before every hold of the first has ended
+abbrev pub LateFrames : Type 0
+LateFrames = (v w : View) (m n : Lent) (first earlier later : List Call) (c : Call) (f : PreparedFrame) → Fresh v → Fresh w →
+    StartsLate v m first w n (earlier ++ c ∷ later) → doing w n earlier c .frame ≡ some f →
+    (echo : ℕ) → holdOf (runAlone v m first .0) echo ≤ doing w n earlier c .sender .clock .«last_ms»
+
+-- a frame that is heard was sent by the one or the other
+abbrev pub SentByTwo : (v w : View) (m n : Lent) (first second : List Call) → ArqFrame → Type 0
+SentByTwo v w m n first second f = Sent v m first f ⊎ Sent w n second f
+
+-- its times
+abbrev pub timesOfTwo : {v w : View} {m n : Lent} {first second : List Call} {f : ArqFrame} → SentByTwo v w m n first second f → Times
+timesOfTwo (inl s) = timesOf s
+timesOfTwo (inr s) = timesOf s
+
+-- a gate that hears two senders so, the second starting late, gets its own order of the one or of the other
+abbrev pub GateOfTwo : Type 0
+GateOfTwo = (v w : View) (m n : Lent) (first second : List Call) (i : MobileIdentity) (b : ArqFrame) (l : List Push) → Fresh v → Fresh w →
+    InOctets first → InOctets second → StartsLate v m first w n second →
+    Listens (SentByTwo v w m n first second) (λ f s. timesOfTwo s) i b l → GetsOwn v m first i b l ⊎ GetsOwn w n second i b l
