@@ -17,6 +17,7 @@ pub mod Kept
 pub mod Listed
 pub mod Literal
 pub mod Lives
+pub mod Misled
 pub mod Once
 pub mod Orders
 pub mod Remarks

@@ -1,7 +1,7 @@
 -- The request's own question: when can a gate not fill the gaps of its order with pieces of a neighbour's? Read `Sent`, `InTime` and
 -- `Listens`, what is asked for; then the claims: `HeldFor` and `OneOrder` of the sender, `Gate` of a gate that hears one sender, and
 -- `GateOfTwo` of one that hears two, the second perhaps in the first one's place after a power failure. They are proved in
--- proofs/Orders.antt and Gate.antt. Assumes nothing.
+-- proofs/Orders.antt and Gate.antt; Misled.antt computes gates of which they speak, and the gate of the request. Assumes nothing.
 use mathlib.Core.Path.{_≡_}
 use mathlib.Core.Logic.{_⊎_, inl, inr}
 use mathlib.Core.List.{List, [], _∷_, _++_, List·Memᴰ}
