@@ -162,6 +162,23 @@ admitted-long v m block now e = go (ltb (length (m .octets)) 32640) (ltb (length
     go true b q h = absurd (true≢false h)
     go false b q h = ltb-false (length (m .octets)) 32640 q
 
+-- a call that says a frame is one of the two that prepare
+pub said-cases : (P : Call → Type 0) (v : View) (m : Lent) (f : PreparedFrame) → ((block now : ℕ) → does v m (Prepare block now) .frame ≡ some f → P (Prepare block now))
+    → ((echo block now : ℕ) → does v m (PreparePrioritized echo block now) .frame ≡ some f → P (PreparePrioritized echo block now)) → (c : Call) → does v m c .frame ≡ some f → P c
+said-cases P v m f h k (Prepare block now) e = h block now e
+said-cases P v m f h k (PreparePrioritized echo block now) e = k echo block now e
+said-cases P v m f h k (Enqueue r message block now) e = absurd (Option·none-ne-some f e)
+said-cases P v m f h k (Advance block now) e = absurd (Option·none-ne-some f e)
+said-cases P v m f h k (Interrupt echo block now) e = absurd (Option·none-ne-some f e)
+said-cases P v m f h k (Submitted t block now) e = absurd (Option·none-ne-some f e)
+said-cases P v m f h k (Transmitted t block now) e = absurd (Option·none-ne-some f e)
+said-cases P v m f h k (Status s block now) e = absurd (Option·none-ne-some f e)
+said-cases P v m f h k (Cancel i) e = absurd (Option·none-ne-some f e)
+said-cases P v m f h k (CancelTransaction t) e = absurd (Option·none-ne-some f e)
+said-cases P v m f h k CancelAll e = absurd (Option·none-ne-some f e)
+said-cases P v m f h k (RefreshWaiting block now) e = absurd (Option·none-ne-some f e)
+said-cases P v m f h k PopEvent e = absurd (Option·none-ne-some f e)
+
 module _ (v : View) (m : Lent) where
   -- both
   abbrev traces : List Call → (octets : List ℕ) → Lasting
@@ -306,19 +323,9 @@ module _ (v : View) (m : Lent) where
 
     -- a frame that is said is selected then, and the transfers and the selection come from the calls before
     said : (c : Call) (f : PreparedFrame) → does w lent c .frame ≡ some f → Holds calls o (does w lent c .sender) × (does w lent c .sender .selected ≡ some f)
-    said (Prepare block now) f e = let k = prepare-shown block now in (k .0, k .1 f e)
-    said (PreparePrioritized echo block now) f e = let k = prioritized-shown echo block now in (k .0, k .1 f e)
-    said (Enqueue r message block now) f e = absurd (Option·none-ne-some f e)
-    said (Advance block now) f e = absurd (Option·none-ne-some f e)
-    said (Interrupt echo block now) f e = absurd (Option·none-ne-some f e)
-    said (Submitted t block now) f e = absurd (Option·none-ne-some f e)
-    said (Transmitted t block now) f e = absurd (Option·none-ne-some f e)
-    said (Status q block now) f e = absurd (Option·none-ne-some f e)
-    said (Cancel i) f e = absurd (Option·none-ne-some f e)
-    said (CancelTransaction t) f e = absurd (Option·none-ne-some f e)
-    said CancelAll f e = absurd (Option·none-ne-some f e)
-    said (RefreshWaiting block now) f e = absurd (Option·none-ne-some f e)
-    said PopEvent f e = absurd (Option·none-ne-some f e)
+    said c f =
+        said-cases (λ c. Holds calls o (does w lent c .sender) × (does w lent c .sender .selected ≡ some f)) w lent f
+        (λ block now e. let k = prepare-shown block now in (k .0, k .1 f e)) (λ echo block now e. let k = prioritized-shown echo block now in (k .0, k .1 f e)) c
 
   -- a selected frame is traced
   traced : (calls : List Call) (octets : List ℕ) (w : View) (f : PreparedFrame) → Holds calls octets w → w .selected ≡ some f → Traced v m calls w f
@@ -360,13 +367,17 @@ module _ (v : View) (m : Lent) where
   after-all calls [] h = subst After (sym (append-nil calls)) h
   after-all calls (c ∷ more) h = subst After (append-assoc calls (c ∷ []) more) (after-all (calls ++ c ∷ []) more (after-more calls c h))
 
+-- what the constructor made
+pub fresh-is : (v : View) (f : Fresh v) → fresh (f .capacity) (f .guard) (f .first-block) (f .first) ≡ v
+unfolding newOf
+fresh-is v f =
+    let p = passed (eqb (f .capacity) 0 || ltb 128 (f .capacity)) 19 (gives (fresh (f .capacity) (f .guard) (f .first-block) (f .first))) (f .made) in
+    let q = p .1 in
+    cc
+
 -- a fresh sender has no transfer and no selection
 fresh-holds : (v : View) (m : Lent) → Fresh v → Holds v m [] (m .octets) v
-unfolding newOf
-fresh-holds v m f =
-    let p = passed (eqb (f .capacity) 0 || ltb 128 (f .capacity)) 19 (gives (fresh (f .capacity) (f .guard) (f .first-block) (f .first))) (f .made) in
-    let z : fresh (f .capacity) (f .guard) (f .first-block) (f .first) ≡ v = let q = p .1 in cc in
-    subst (λ w. Carries (traces v m [] (m .octets)) w) z (all-none, tt)
+fresh-holds v m f = subst (λ w. Carries (traces v m [] (m .octets)) w) (fresh-is v f) (all-none, tt)
 
 -- what holds after any list of calls from a fresh sender
 after-fresh : (v : View) (m : Lent) (calls : List Call) → Fresh v → After v m calls

@@ -1,7 +1,7 @@
 -- A gate that hears a sender in time gets its own order, and so does one that hears two, the second starting late. Assumes nothing.
 use mathlib.Core.Path.{_≡_, refl, sym, ap, subst, _∙_}
 use mathlib.Core.Logic.{_⊎_, inl, inr, ⊎-elim, _≢_}
-use mathlib.Core.Bool.{Bool, true, false, not, _||_}
+use mathlib.Core.Bool.{Bool, true, false, not}
 use mathlib.Core.List.{List, [], _∷_, _++_, List·Memᴰ, Memᴰ·append-right, head-eq-of-cons-eq, tail-eq-of-cons-eq}
 use mathlib.Core.List.List·Memᴰ.{List·Memᴰ·head}
 use mathlib.Core.Option.{some}
@@ -45,7 +45,7 @@ use Rattle.receiver.proofs.Whole.{demand3}
 use Rattle.transfer.specs.declared.Request.{Request}
 use Rattle.transfer.specs.declared.Transfer.{Transfer}
 use Rattle.transfer.specs.declared.PreparedFrame.{PreparedFrame}
-use Rattle.transfer.specs.State.{Limits, View, Lent, fresh, newOf}
+use Rattle.transfer.specs.State.{Limits, View, Lent}
 use Rattle.transfer.specs.Echo.{heldUntil}
 use Rattle.transfer.specs.Transfer.{headerOf}
 use Rattle.transfer.specs.History.{Call, Enqueue, does, Told, after, run, Fresh, Each, holdOf, Takes, Past, runAlone, Accepts, IsFrameOf, Traced}
@@ -54,7 +54,7 @@ use Rattle.transfer.proofs.Listed.{some-all}
 use Rattle.transfer.proofs.Lives.{fresh-kept}
 use Rattle.transfer.proofs.Taken.{taken-free}
 use Rattle.transfer.proofs.Holds.{only-taken}
-use Rattle.transfer.proofs.Faithful.{accepts-more, faithful}
+use Rattle.transfer.proofs.Faithful.{accepts-more, fresh-is, faithful}
 use Rattle.transfer.proofs.Remarks.{cut-gives}
 use Rattle.transfer.proofs.Orders.{doing-later, run-later, run-behind, hold-late, between-later, first-of-second, one-order}
 
@@ -202,7 +202,7 @@ module _ (v : View) (m : Lent) (calls : List Call) (fr : Fresh v) where
   sent-held : {f : ArqFrame} (s : Sent v m calls f) → timesOf s .prepared + timesOf s .guard < timesOf s .until
   sent-held s = hold-late v m (s .earlier) (s .call) (s .frame) fr (s .prepared)
 
-  -- what is prepared after a Begin was not prepared too long before it
+  -- what a later call prepares was prepared at most a guard before, since the clock does not go back
   pub after-begin : {b f : ArqFrame} (s : Sent v m calls b) (u : Sent v m calls f) (e : List Call) → u .earlier ≡ s .earlier ++ s .call ∷ e → timesOf s .prepared ≤ timesOf u .prepared + timesOf u .guard
   after-begin s u e a =
       let h : timesOf s .prepared ≤ timesOf u .prepared = subst (λ l. timesOf s .prepared ≤ doing v m l (u .call) .sender .clock .«last_ms») (sym a) (between-later v m (s .earlier) e (s .call) (u .call) (s .frame) (u .frame) fr .since) in
@@ -356,11 +356,7 @@ none-held (suc n) (suc k) = none-held n k
 
 -- a fresh sender holds no echo
 fresh-free : (v : View) → Fresh v → (echo : ℕ) → holdOf v echo ≡ 0
-unfolding newOf
-fresh-free v f echo =
-    let p = passed (eqb (f .capacity) 0 || ltb 128 (f .capacity)) 19 (gives (fresh (f .capacity) (f .guard) (f .first-block) (f .first))) (f .made) in
-    let z : fresh (f .capacity) (f .guard) (f .first-block) (f .first) ≡ v = let q = p .1 in cc in
-    subst (λ w. holdOf w echo ≡ 0) z (none-held 128 echo)
+fresh-free v f echo = subst (λ w. holdOf w echo ≡ 0) (fresh-is v f) (none-held 128 echo)
 
 -- what is asked of each call of the second sender
 abbrev Waits : (v : View) (m : Lent) (first : List Call) (w : View) → View → Told → Type 0

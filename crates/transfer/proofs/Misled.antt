@@ -18,10 +18,9 @@ use Rattle.rach.specs.declared.MobileIdentity.{MobileIdentity}
 use Rattle.rach.specs.declared.MobileIdentity.the-variants.{Tmsi20}
 use Rattle.rach.proofs.Laws.{both}
 use Rattle.spach.specs.declared.Channel.the-variants.{Arch}
-use Rattle.spach.specs.Refusal.{Outcome, gives, refuses}
+use Rattle.spach.specs.Refusal.{refuses}
 use Rattle.spach.specs.Header.{headerAAt, addressAt}
 use Rattle.arq.specs.declared.ArqFrame.{ArqFrame}
-use Rattle.arq.specs.declared.PackedFrame.{PackedFrame}
 use Rattle.arq.specs.Frame.{packed, beginFrame, continueFrame}
 use Rattle.arq.specs.Encode.{encodeOf}
 use Rattle.arq.specs.Decode.{decodeOf}
@@ -47,6 +46,7 @@ use Rattle.transfer.specs.History.{Call, Enqueue, Prepare, Submitted, do
 use Rattle.transfer.specs.Gate.{Sent, timesOf, InTime, Listens, GetsOwn, InOctets, told, StartsLate, SentByTwo, timesOfTwo}
 use Rattle.transfer.proofs.Listed.{all-head, all-tail, some-cons, some-all}
 use Rattle.transfer.proofs.Instance.{lends, sender, made, request}
+use Rattle.transfer.proofs.Witness.{octetsOf}
 use Rattle.transfer.proofs.Gate.{gate, late-frames, gate-of-two}
 
 -- ---- two orders
@@ -71,18 +71,13 @@ others = 101 ∷ 102 ∷ 103 ∷ 104 ∷ 105 ∷ 106 ∷ 107 ∷ 108 ∷ 109 ∷
 abbrev cutOf : MobileIdentity → List ℕ → (echo k : ℕ) → (polling : Bool) → ArqFrame
 cutOf i m echo k polling = cutFrame (headerOf Arch echo polling) i m k
 
--- the octets of an encoded frame
-abbrev octetsIn : Outcome PackedFrame → List ℕ
-octetsIn (gives p) = p .octets
-octetsIn (refuses n) = []
-
 -- a frame's token
 abbrev tokenOf : (generation submission frame : ℕ) → FrameToken
 tokenOf generation submission frame = record { generation = record { 0 = generation }; submission = record { 0 = submission }; frame = frame }
 
 -- a frame as it is prepared
 abbrev preparedAs : MobileIdentity → ArqFrame → FrameToken → PreparedFrame
-preparedAs i f t = record { identity = i; octets = octetsIn (encodeOf f); token = t; «partial_echo» = f .header .«partial_echo» }
+preparedAs i f t = record { identity = i; octets = octetsOf (encodeOf f); token = t; «partial_echo» = f .header .«partial_echo» }
 
 -- and as the gate gets it
 abbrev push : PreparedFrame → Push
@@ -139,7 +134,7 @@ begin-sent = record {
   decodes = refl;
 }
 
--- the neighbour's Continue
+-- so was the neighbour's Continue, later
 other-sent : Sent sender lends calls other-continue
 unfolding calls runAlone octets bitsOf bits value field layout upTo anySet same inRange encodable packed beginFrame continueFrame encodeOf decodeOf headerAAt addressAt countOf frameOf ones onesIn trailingZeros freeEcho doneOf settleOf fateOf step walk walked grantOf accepts enqueueOf packedOf choose prepareOf submittedAt submittedOf
 other-sent = record {
@@ -152,7 +147,7 @@ other-sent = record {
   decodes = refl;
 }
 
--- the gate's Continue
+-- and the gate's own
 continue-sent : Sent sender lends calls continue
 unfolding calls runAlone octets bitsOf bits value field layout upTo anySet same inRange encodable packed beginFrame continueFrame encodeOf decodeOf headerAAt addressAt countOf frameOf ones onesIn trailingZeros freeEcho doneOf settleOf fateOf step walk walked grantOf accepts enqueueOf packedOf choose prepareOf submittedAt submittedOf
 continue-sent = record {

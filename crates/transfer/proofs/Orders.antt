@@ -24,7 +24,7 @@ use Rattle.transfer.specs.Transfer.{headerOf}
 use Rattle.transfer.specs.Advance.{overdue, walked}
 use Rattle.transfer.specs.Prepare.{isReady, frontOf, selects, chooseFrom, choose, prepareOf, repeated, onlyEcho, prioritizeAt, preparePrioritizedOf}
 use Rattle.transfer.specs.Invariant.{All, all-more, Some, Pairs, Different, Sound}
-use Rattle.transfer.specs.History.{Call, Enqueue, Advance, Prepare, Interrupt, PreparePrioritized, Submitted, Transmitted, Status, Cancel, CancelTransaction, CancelAll, RefreshWaiting, PopEvent, Done, does, frameIn, Fresh, holdOf, runAlone, Accepts, IsFrameOf, Traced}
+use Rattle.transfer.specs.History.{Call, Done, does, frameIn, Fresh, holdOf, runAlone, Accepts, IsFrameOf, Traced}
 use Rattle.transfer.specs.Gate.{doing, HeldFor, OneOrder}
 use Rattle.transfer.proofs.Listed.{all-map, all-both, all-one, all-rest, all-at, all-removed, some-map, some-all, some-out, some-split, pairs-one}
 use Rattle.transfer.proofs.Alive.{SameParcel, repeated-parcel}
@@ -34,12 +34,12 @@ use Rattle.transfer.proofs.Again.{walked-rests}
 use Rattle.transfer.proofs.Lives.{does-kept, fresh-kept}
 use Rattle.transfer.proofs.Taken.{Careful, does-careful}
 use Rattle.transfer.proofs.Once.{accepted-once}
-use Rattle.transfer.proofs.Faithful.{accepts-more, faithful, ordered}
+use Rattle.transfer.proofs.Faithful.{accepts-more, said-cases, faithful, ordered}
 
 -- ---- a call that prepares a frame leaves no transfer overdue
 
 -- none of a sender is
-abbrev pub Prompt : View → Type 0
+abbrev Prompt : View → Type 0
 Prompt v = All (λ x. overdue (v .clock) x ≡ false) (v .transfers)
 
 -- another of the same parcel is not, either
@@ -82,21 +82,12 @@ said-prompt v (gives w) g f k e = k w refl
 said-prompt v (refuses n) g f k e = absurd (Option·none-ne-some f e)
 
 -- each call that says one
-pub does-prompt : (v : View) (m : Lent) (c : Call) (f : PreparedFrame) → Sound v → does v m c .frame ≡ some f → Prompt (does v m c .sender)
+does-prompt : (v : View) (m : Lent) (c : Call) (f : PreparedFrame) → Sound v → does v m c .frame ≡ some f → Prompt (does v m c .sender)
 unfolding prepareOf preparePrioritizedOf
-does-prompt v m (Prepare block now) f h e = said-prompt v (admitted v m block now) (λ w. choose (walked w) (m .octets)) f (λ w q. choose-prompt (walked w) (m .octets) (walked-prompt w (admitted-kept v m block now q h))) e
-does-prompt v m (PreparePrioritized echo block now) f h e = said-prompt v (admitted v m block now) (λ w. prioritizeAt (walked w) (m .octets) echo) f (λ w q. prioritize-prompt (walked w) (m .octets) echo (walked-prompt w (admitted-kept v m block now q h))) e
-does-prompt v m (Enqueue r message block now) f h e = absurd (Option·none-ne-some f e)
-does-prompt v m (Advance block now) f h e = absurd (Option·none-ne-some f e)
-does-prompt v m (Interrupt echo block now) f h e = absurd (Option·none-ne-some f e)
-does-prompt v m (Submitted t block now) f h e = absurd (Option·none-ne-some f e)
-does-prompt v m (Transmitted t block now) f h e = absurd (Option·none-ne-some f e)
-does-prompt v m (Status s block now) f h e = absurd (Option·none-ne-some f e)
-does-prompt v m (Cancel i) f h e = absurd (Option·none-ne-some f e)
-does-prompt v m (CancelTransaction t) f h e = absurd (Option·none-ne-some f e)
-does-prompt v m CancelAll f h e = absurd (Option·none-ne-some f e)
-does-prompt v m (RefreshWaiting block now) f h e = absurd (Option·none-ne-some f e)
-does-prompt v m PopEvent f h e = absurd (Option·none-ne-some f e)
+does-prompt v m c f h =
+    said-cases (λ c. Prompt (does v m c .sender)) v m f
+    (λ block now. said-prompt v (admitted v m block now) (λ w. choose (walked w) (m .octets)) f (λ w q. choose-prompt (walked w) (m .octets) (walked-prompt w (admitted-kept v m block now q h))))
+    (λ echo block now. said-prompt v (admitted v m block now) (λ w. prioritizeAt (walked w) (m .octets) echo) f (λ w q. prioritize-prompt (walked w) (m .octets) echo (walked-prompt w (admitted-kept v m block now q h)))) c
 
 -- ---- a sender and a later one
 
@@ -112,7 +103,7 @@ self : (v : View) → Later v v
 self v = record { limits = refl; since = omega arith; holds = λ echo. omega arith; back = λ y t o. o }
 
 -- one after the other
-pub then : (v u w : View) → Later v u → Later u w → Later v w
+then : (v u w : View) → Later v u → Later u w → Later v w
 then v u w h k =
     let a = h .since in
     let b = k .since in
@@ -124,7 +115,7 @@ then v u w h k =
     }
 
 -- a call
-pub does-later : (v : View) (m : Lent) (c : Call) → Sound v → Later v (does v m c .sender)
+does-later : (v : View) (m : Lent) (c : Call) → Sound v → Later v (does v m c .sender)
 does-later v m c h = record { limits = k .limits; since = k .since; holds = k .holds; back = λ y t o. some-all (go y t) o (k .comes) }
   where
     w : View
@@ -154,7 +145,7 @@ doing-later v m calls c h =
     (does-kept (at .0) (at .1) c (r .0), then v (at .0) (does (at .0) (at .1) c .sender) (r .1) (does-later (at .0) (at .1) c (r .0)))
 
 -- two lists, one after the other
-pub run-append : (v : View) (m : Lent) (a b : List Call) → runAlone v m (a ++ b) ≡ (let at = runAlone v m a in runAlone (at .0) (at .1) b)
+run-append : (v : View) (m : Lent) (a b : List Call) → runAlone v m (a ++ b) ≡ (let at = runAlone v m a in runAlone (at .0) (at .1) b)
 unfolding runAlone
 run-append v m [] b = refl
 run-append v m (c ∷ a) b = let d = does v m c in run-append (d .sender) (d .lent) a b
@@ -180,7 +171,7 @@ one-live w x y h p i j e =
     (some-out a z b (subst (Some (SameParcel y)) (s .3) j))
 
 -- a frame of one transfer is a frame of another of the same parcel, generation and echo
-pub frame-as : (f : PreparedFrame) (y x : Transfer) (r s : Request) (a b : List ℕ) → SameParcel y x → r ≡ s → a ≡ b → IsFrameOf f y r a → IsFrameOf f x s b
+frame-as : (f : PreparedFrame) (y x : Transfer) (r s : Request) (a b : List ℕ) → SameParcel y x → r ≡ s → a ≡ b → IsFrameOf f y r a → IsFrameOf f x s b
 frame-as f y x r s a b p q e h =
     subst (λ t. IsFrameOf f x t b) q (subst (IsFrameOf f x r) e
     (record {

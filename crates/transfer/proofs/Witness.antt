@@ -55,7 +55,7 @@ traced : let at = runAlone sender lends calls in Traced sender lends calls (does
 traced = faithful sender lends calls call frame made prepared
 
 -- the octets of an encoded frame
-abbrev octetsOf : Outcome PackedFrame → List ℕ
+abbrev pub octetsOf : Outcome PackedFrame → List ℕ
 octetsOf (gives p) = p .octets
 octetsOf (refuses n) = []
 
