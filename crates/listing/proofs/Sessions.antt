@@ -1,10 +1,13 @@
 -- Laws on sessions: what a push comes to, and the lines of frames pushed in turn. Assumes nothing.
 use mathlib.Core.Path.{_≡_, refl, sym, ap, ap₂, _∙_}
+use mathlib.Core.Bool.{Bool, true}
 use mathlib.Core.List.{List, [], _∷_, _++_, append-assoc}
-use Prim.Native.Nat.{ℕ, zero, suc, _+_, _-_, _*_, _/_, _≤_, _<_}
+use Prim.Native.Nat.{ℕ, zero, suc, _+_, _-_, _*_, _/_, _%_, _≤_, _<_}
+use native.Mathlib.Nat.{zero-add, suc-add}
 use native.Mathlib.Omega.{arith}
-use lib.ListN.{length, take, drop, length-append}
-use lib.Seq.{drop-drop}
+use lib.ListN.{length, take, drop, length-append, length-drop}
+use lib.Seq.{drop-drop, take-append-le, drop-append-le, take-at, drop-at}
+use borrow.Author.Tests.{eqb-true}
 use Rattle.io.proofs.Counting.{counts}
 use Rattle.spach.specs.Refusal.{Outcome, gives, refuses}
 use Rattle.receiver.specs.declared.ArqReassembler.{ArqReassembler}
@@ -21,8 +24,8 @@ use Rattle.receiver.proofs.Laws.{push-delivers, refusal-leaves}
 use Rattle.listing.specs.declared.Session.{Session}
 use Rattle.listing.specs.declared.Shown.{Shown}
 use Rattle.listing.specs.Text.{written, Wrote}
-use Rattle.listing.specs.Line.{deliveryOf, Inside, lineOf}
-use Rattle.listing.specs.Session.{pushWith, pushesOf, counted, outOf, stepOf, afterOf, linesOf, Ready, Read, ShowsAll}
+use Rattle.listing.specs.Line.{deliveryOf, Inside, lineOf, headerLine}
+use Rattle.listing.specs.Session.{openOf, pushWith, pushesOf, framesOf, counted, outOf, stepOf, afterOf, linesOf, Ready, Read, ShowsAll, Chunk, Chunks, startOf, lastLines, listingFrom, listingOf}
 use Rattle.listing.proofs.Texts.{written-append, written-none}
 
 -- ---- one push
@@ -144,6 +147,73 @@ lines-append x (p ∷ a) b =
     ap (λ l. lineOf (x .frames + 1) (outOf x p) ++ l) (lines-append (stepOf x p) a b)
     ∙ sym (append-assoc (lineOf (x .frames + 1) (outOf x p)) (linesOf (stepOf x p) a) (linesOf (afterOf (stepOf x p) a) b))
 
+after-append : (x : Session) (a b : List Push) → afterOf x (a ++ b) ≡ afterOf (afterOf x a) b
+after-append x [] b = refl
+after-append x (p ∷ a) b = after-append (stepOf x p) a b
+
+pushes-append : (n m : ℕ) (a c : List ℕ) → length a ≡ 14 * n → pushesOf (n + m) (a ++ c) ≡ pushesOf n a ++ pushesOf m c
+pushes-append zero m [] c h = ap (λ k. pushesOf k c) (zero-add m)
+pushes-append zero m (y ∷ a) c h = absurd (omega arith)
+pushes-append (suc n) m a c h =
+    ap (λ k. pushesOf k (a ++ c)) (suc-add n m)
+    ∙ ap₂ (λ (f : List ℕ) (l : List Push). pushWith f ∷ l) (take-append-le 14 a c (omega arith))
+    (ap (pushesOf (n + m)) (drop-append-le 14 a c (omega arith)) ∙ pushes-append n m (drop 14 a) c (omega (arith, length-drop 14 a)))
+
+-- whole frames, and what follows them
+frames-append : (a c : List ℕ) → length a % 14 ≡ 0 → framesOf (a ++ c) ≡ framesOf a ++ framesOf c
+frames-append a c h =
+    let n : length (a ++ c) / 14 ≡ length a / 14 + length c / 14 = omega (arith, length-append a c) in
+    ap (λ k. pushesOf k (a ++ c)) n ∙ pushes-append (length a / 14) (length c / 14) a c (omega arith)
+
+module _ (x : Session) (a c : List ℕ) (whole : length a % 14 ≡ 0) where
+  lines-parts : linesOf x (framesOf (a ++ c)) ≡ linesOf x (framesOf a) ++ linesOf (afterOf x (framesOf a)) (framesOf c)
+  lines-parts = ap (linesOf x) (frames-append a c whole) ∙ lines-append x (framesOf a) (framesOf c)
+
+  after-parts : afterOf x (framesOf (a ++ c)) ≡ afterOf (afterOf x (framesOf a)) (framesOf c)
+  after-parts = ap (afterOf x) (frames-append a c whole) ∙ after-append x (framesOf a) (framesOf c)
+
+-- an input in chunks: full ones, and the last
+abbrev pub inputOf : List (List ℕ) → List ℕ → List ℕ
+inputOf [] c = c
+inputOf (a ∷ cs) c = a ++ inputOf cs c
+
+abbrev pub Full : List (List ℕ) → Type 0
+Full [] = Unit
+Full (a ∷ cs) = (length a ≡ 896) × Full cs
+
+-- the lines of each, from the session that the one before it left
+abbrev pub chunkLines : Session → List (List ℕ) → List ℕ → List ℕ
+chunkLines x [] c = linesOf x (framesOf c)
+chunkLines x (a ∷ cs) c = linesOf x (framesOf a) ++ chunkLines (afterOf x (framesOf a)) cs c
+
+-- the session that the last leaves
+abbrev pub chunkAfter : Session → List (List ℕ) → List ℕ → Session
+chunkAfter x [] c = afterOf x (framesOf c)
+chunkAfter x (a ∷ cs) c = chunkAfter (afterOf x (framesOf a)) cs c
+
+chunks-lines : (x : Session) (cs : List (List ℕ)) (c : List ℕ) → Full cs → linesOf x (framesOf (inputOf cs c)) ≡ chunkLines x cs c
+chunks-lines x [] c f = refl
+chunks-lines x (a ∷ cs) c f =
+    lines-parts x a (inputOf cs c) (omega (arith, f .0)) ∙ ap (λ l. linesOf x (framesOf a) ++ l) (chunks-lines (afterOf x (framesOf a)) cs c (f .1))
+
+chunks-after : (x : Session) (cs : List (List ℕ)) (c : List ℕ) → Full cs → afterOf x (framesOf (inputOf cs c)) ≡ chunkAfter x cs c
+chunks-after x [] c f = refl
+chunks-after x (a ∷ cs) c f = after-parts x a (inputOf cs c) (omega (arith, f .0)) ∙ chunks-after (afterOf x (framesOf a)) cs c (f .1)
+
+chunks-cut : (cs : List (List ℕ)) (c : List ℕ) → Full cs → length (inputOf cs c) % 14 ≡ length c % 14
+chunks-cut [] c f = refl
+chunks-cut (a ∷ cs) c f = omega (arith, length-append a (inputOf cs c), f .0, chunks-cut cs c (f .1))
+
+-- the listing of an input is the header, the lines of chunk after chunk, and the last lines
+pub listing-chunks : (i : List ℕ) (s : ArqReassembler) (cs : List (List ℕ)) (c : List ℕ) → length i ≡ 9 → openOf i ≡ gives s → Full cs
+    → listingOf (i ++ inputOf cs c) ≡ headerLine ++ chunkLines (startOf s) cs c ++ lastLines (chunkAfter (startOf s) cs c) (length c % 14)
+unfolding listingOf
+listing-chunks i s cs c e o f =
+    let r = inputOf cs c in
+    ap₂ listingFrom (ap openOf (take-at i r 9 e) ∙ o) (drop-at i r 9 e)
+    ∙ ap (λ l. headerLine ++ l ++ lastLines (afterOf (startOf s) (framesOf r)) (length r % 14)) (chunks-lines (startOf s) cs c f)
+    ∙ ap₂ (λ (y : Session) (k : ℕ). headerLine ++ chunkLines (startOf s) cs c ++ lastLines y k) (chunks-after (startOf s) cs c f) (chunks-cut cs c f)
+
 -- ---- what is left to read
 
 length-pushesOf : (n : ℕ) (xs : List ℕ) → length (pushesOf n xs) ≡ n
@@ -156,6 +226,28 @@ read-after x (p ∷ l) left k r h m =
     let step : Read (stepOf x p) (left - 14) = record { valid = valid-push (x .receiver) (p .octets) (p .buffer) (r .valid); frames = omega (arith, r .frames); messages = omega (arith, r .messages, counted-most (outOf x p .outcome)) } in
     let end : left - 14 - (k - 14) ≡ left - k = omega arith in
     rw end at (read-after (stepOf x p) l (left - 14) (k - 14) step (omega arith) (omega arith))
+
+-- nothing was read yet
+pub chunks-none : (x : Session) (limit : ℕ) → Chunks x limit x limit 0
+chunks-none x limit = record { octets = []; session = refl; left = omega arith; cut = refl }
+
+-- a chunk more, where no frame was cut before it
+pub chunks-more : {x y z : Session} {limit left l j k : ℕ} {m : Bool} → Chunks x limit y left j → j ≡ 0 → Chunk y left z l k m → Chunks x limit z l k
+chunks-more {x} g w c =
+    let both = length-append (g .octets) (c .octets) in record {
+      octets = g .octets ++ c .octets;
+      session = c .session ∙ ap (λ s. afterOf s (framesOf (c .octets))) (g .session) ∙ sym (after-parts x (g .octets) (c .octets) (sym (g .cut) ∙ w));
+      left = omega (arith, both, g .left, c .left);
+      cut = omega (arith, both, g .cut, w, c .cut);
+    }
+
+-- a full chunk has no cut frame
+pub full-uncut : {x y : Session} {limit l k : ℕ} {m : Bool} → Chunk x limit y l k m → m ≡ true → k ≡ 0
+full-uncut c e = omega (arith, eqb-true (length (c .octets)) 896 (sym (c .more) ∙ e), c .cut)
+
+-- and takes some of the octets that were left
+pub full-less : {x y : Session} {limit l k : ℕ} {m : Bool} → Chunk x limit y l k m → m ≡ true → l < limit
+full-less c e = omega (arith, eqb-true (length (c .octets)) 896 (sym (c .more) ∙ e), c .left)
 
 -- a chunk of k octets
 pub read-chunk : (x y : Session) (xs : List ℕ) (left k : ℕ) → Read x left → k ≡ length xs → k ≤ left → y ≡ afterOf x (pushesOf (length xs / 14) xs) → Read y (left - k)

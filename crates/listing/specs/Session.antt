@@ -1,8 +1,9 @@
 -- 01, "Program `arq-show`": the whole listing of an input: identity, frames pushed in turn, cut last frame. Assumes nothing.
 use mathlib.Core.Path.{_≡_}
+use mathlib.Core.Bool.{Bool}
 use mathlib.Core.List.{List, [], _∷_, _++_}
 use Prim.Native.Nat.{ℕ, zero, suc, _+_, _*_, _/_, _%_, _≤_, _<_, _^_}
-use lib.Dec.{ltb}
+use lib.Dec.{eqb, ltb}
 use lib.ListN.{length, take, drop, getD, replicate}
 use Rattle.io.specs.Counts.{Counts}
 use Rattle.field.specs.Bits.{bitsOf, field}
@@ -31,6 +32,10 @@ pushWith xs = record { octets = xs; buffer = replicate 255 0 }
 abbrev pub pushesOf : ℕ → List ℕ → List Push
 pushesOf zero xs = []
 pushesOf (suc n) xs = pushWith (take 14 xs) ∷ pushesOf n (drop 14 xs)
+
+-- all whole frames among octets
+abbrev pub framesOf : List ℕ → List Push
+framesOf xs = pushesOf (length xs / 14) xs
 
 -- deliveries are counted
 abbrev pub counted : Delivery → ℕ
@@ -78,6 +83,23 @@ pub record ShowsAll (x : Session) (l : List Push) (before after : List ℕ) (r :
   pub wrote : Wrote before after 0 (r .end) (linesOf x l)
   pub inside : Counts (r .end) after
 
+-- from x on, octets were read, 64 frames at most, and their whole frames were pushed. They leave y, so many octets to read and
+-- so many of a cut frame; the input may go on if they are 64 frames
+pub record Chunk (x : Session) (limit : ℕ) (y : Session) (l k : ℕ) (m : Bool) : Type 0 where
+  pub octets : List ℕ
+  pub most : length octets ≤ 896
+  pub session : y ≡ afterOf x (framesOf octets)
+  pub left : l + length octets ≡ limit
+  pub cut : k ≡ length octets % 14
+  pub more : m ≡ eqb (length octets) 896
+
+-- the same of chunk after chunk, as if their octets were read at once
+pub record Chunks (x : Session) (limit : ℕ) (y : Session) (l k : ℕ) : Type 0 where
+  pub octets : List ℕ
+  pub session : y ≡ afterOf x (framesOf octets)
+  pub left : l + length octets ≡ limit
+  pub cut : k ≡ length octets % 14
+
 -- before the first frame
 abbrev pub startOf : ArqReassembler → Session
 startOf s = record { receiver = s; frames = 0; messages = 0 }
@@ -90,7 +112,7 @@ lastLines x k = cutLine k ++ messagesLine (x .messages)
 abbrev pub listingFrom : Outcome ArqReassembler → List ℕ → List ℕ
 listingFrom (refuses n) xs = identityLine
 listingFrom (gives s) xs =
-    let l = pushesOf (length xs / 14) xs in
+    let l = framesOf xs in
     headerLine ++ linesOf (startOf s) l ++ lastLines (afterOf (startOf s) l) (length xs % 14)
 
 -- the whole listing: nine octets of identity, then the frames

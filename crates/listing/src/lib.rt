@@ -17,7 +17,7 @@ ghost use Rattle.receiver.specs.Receiver.{blankReceiver, madeAnswer};
 ghost use Rattle.listing.specs.Text.{Wrote};
 ghost use Rattle.listing.specs.Line.{lineOf};
 ghost use Rattle.field.specs.Bits.{bitsOf, field};
-ghost use Rattle.listing.specs.Session.{openOf, Ready, pushWith, pushesOf, counted, outOf, stepOf, ShowsAll};
+ghost use Rattle.listing.specs.Session.{openOf, Ready, pushWith, framesOf, counted, outOf, stepOf, ShowsAll};
 
 // The receiver, and how many frames were pushed and messages delivered.
 pub struct Session {
@@ -93,7 +93,7 @@ pub fn show_frame(session: Session, octets: &[u8], text: &mut [u8], to: usize) -
 // Pushes the frames of 14 octets in turn, and writes their lines from the front of the text on.
 pub fn show_frames(session: Session, octets: &[u8], text: &mut [u8]) -> Shown
     requires { ⌜ Ready session (length (now octets) / 14) × (600 * (length (now octets) / 14) ≤ length (now text)) ⌝ }
-    ensures { λ r. ⌜ ShowsAll session (pushesOf (length (now (octets .entry)) / 14) (now (octets .entry))) (now (text .entry)) (now (text .exit)) r ⌝ }
+    ensures { λ r. ⌜ ShowsAll session (framesOf (now (octets .entry))) (now (text .entry)) (now (text .exit)) r ⌝ }
 {
     let n = octets.len() / 14;
     let mut i: usize = 0;

@@ -5,12 +5,10 @@ use libc::STDIN_FILENO;
 use libc::STDOUT_FILENO;
 use receiver::ArqReassembler;
 use spach::Verdict;
-ghost use mathlib.Core.Path.{_≡_};
-ghost use mathlib.Core.Bool.{true};
-ghost use Prim.Native.Nat.{_≤_, _<_};
+ghost use Prim.Native.Nat.{_≤_};
 ghost use Rattle.io.specs.Counts.{Counts};
 ghost use Rattle.receiver.specs.Valid.{Valid};
-ghost use Rattle.listing.specs.Session.{Read};
+ghost use Rattle.listing.specs.Session.{startOf, Read, Chunk, Chunks};
 
 // What a chunk came to: the session, how many octets are left to read, how many of the chunk are a cut frame, and whether
 // the input may go on.
@@ -38,7 +36,7 @@ fn read_some(room: &mut [u8], left: u64) -> usize
 // Reads 64 frames, or what is left, and prints their lines.
 fn show_chunk(session: Session, left: u64) -> Turn
     requires { ⌜ Read session left ⌝ }
-    ensures { λ r. ⌜ Read (r .session) (r .left) × (r .more ≡ true → r .left < left) ⌝ }
+    ensures { λ r. ⌜ Chunk session left (r .session) (r .left) (r .cut) (r .more) × Read (r .session) (r .left) ⌝ }
 {
     let mut input = [0u8; 896];
     let n = read_some(&mut input, left);
@@ -55,9 +53,10 @@ fn show_chunk(session: Session, left: u64) -> Turn
     }
 }
 
-// Prints the lines after the header.
-fn show_all(receiver: ArqReassembler, limit: u64) -> u64
+// Chunk after chunk, until one is not full.
+fn show_chunks(receiver: ArqReassembler, limit: u64) -> Turn
     requires { ⌜ Valid receiver ⌝ }
+    ensures { λ r. ⌜ Chunks (startOf receiver) limit (r .session) (r .left) (r .cut) ⌝ }
 {
     let mut t = Turn {
         session: Session {
@@ -73,6 +72,15 @@ fn show_all(receiver: ArqReassembler, limit: u64) -> u64
         let session = t.session;
         t = show_chunk(session, t.left);
     }
+    t
+}
+
+// Prints the lines after the header.
+fn show_all(receiver: ArqReassembler, limit: u64) -> u64
+    requires { ⌜ Valid receiver ⌝ }
+    ensures { λ r. ⌜ r ≤ limit ⌝ }
+{
+    let t = show_chunks(receiver, limit);
     let mut text = [0u8; 55];
     let session = t.session;
     let end = put_last(&mut text, session, t.cut as u64);
@@ -81,7 +89,9 @@ fn show_all(receiver: ArqReassembler, limit: u64) -> u64
 }
 
 // Lists an input of at most `limit` octets. Answers how many of them were not read.
-pub fn show(limit: u64) -> u64 {
+pub fn show(limit: u64) -> u64
+    ensures { λ r. ⌜ r ≤ limit ⌝ }
+{
     let mut octets = [0u8; 9];
     let n = read_some(&mut octets, limit);
     let made = super::open(&octets[..n]);

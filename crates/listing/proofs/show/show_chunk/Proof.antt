@@ -1,7 +1,9 @@
 -- `listing::show::show_chunk` meets its contract. Assumes nothing.
+use mathlib.Core.Path.{_≡_, ap}
+use Prim.Native.Nat.{_%_}
 use native.Mathlib.Omega.{arith}
-use lib.ListN.{take}
-use borrow.Author.Tests.{eqb-true}
+use lib.Dec.{eqb}
+use lib.ListN.{length, take}
 use Rattle.listing.proofs.Sessions.{read-chunk}
 use borrow.Author.Needs.{needs}
 use Rattle.listing.proofs.show.show_chunk.Statement.{statement}
@@ -42,8 +44,18 @@ returns c =
     let s = c .before .before .before .before .before .before .before .before .before .before in
     let read = c .before .before .before .before .before .before .before .before .read-some in
     let n = read .result in
-    let shown = c .before .before .before .before .show-frames in
-    (read-chunk (s .args .session) (shown .result .session) (take n (read .last .0)) (s .args .left) n (s .pre) (read .ensures .0 .1) (read .ensures .1) (shown .ensures .session), λ e. omega (arith, eqb-true n 896 e, read .ensures .1))
+    let size : length (read .last .0) ≡ 896 = search needs in
+    let shown = c .before .before .before .before .show-frames in (
+      record {
+        octets = take n (read .last .0);
+        most = omega (arith, size, read .ensures .0);
+        session = shown .ensures .session;
+        left = omega (arith, read .ensures .0 .1, read .ensures .1);
+        cut = ap (λ k. k % 14) (read .ensures .0 .1);
+        more = ap (λ k. eqb k 896) (read .ensures .0 .1);
+      },
+      read-chunk (s .args .session) (shown .result .session) (take n (read .last .0)) (s .args .left) n (s .pre) (read .ensures .0 .1) (read .ensures .1) (shown .ensures .session),
+    )
 
 pub show-chunk-spec : {M : Type 1} → statement M
 show-chunk-spec =
