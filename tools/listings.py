@@ -210,6 +210,10 @@ def inputs():
         mixed = rest + rng.sample(rest, 20)
         rng.shuffle(mixed)
         yield identity(t, 77) + first + b"".join(mixed) + first + b"".join(rest) + first[:t]
+    # a chunk less a frame, a whole one, a frame more, two whole ones; a cut frame after a whole one
+    for n in (63, 64, 65, 128):
+        yield own + one * n
+    yield own + one * 64 + one[:1]
 
 
 if __name__ == "__main__":
