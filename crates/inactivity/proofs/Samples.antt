@@ -1,12 +1,13 @@
--- 01's lines on 31 and 32 blocks, and the last four tokens, computed on the definitions. Assumes nothing.
+-- 01's lines on 31 and 32 blocks, the last four tokens, and each state that a life goes through, computed on the definitions. Assumes
+-- nothing.
 use mathlib.Core.Path.{_≡_, refl}
-use mathlib.Core.Bool.{true}
+use mathlib.Core.Bool.{true, false}
 use Prim.Native.Nat.{ℕ, _-_}
 use Rattle.token.specs.Token.{stop}
 use Rattle.spach.specs.Refusal.{gives, refuses}
 use Rattle.inactivity.specs.declared.InactivityAction.the-variants.{None, RequestUnsolicitedStatus, Terminate}
 use Rattle.inactivity.specs.declared.StatusResult.the-variants.{Sent, Failed}
-use Rattle.inactivity.specs.declared.State.the-variants.{Waiting, FinalWait}
+use Rattle.inactivity.specs.declared.State.the-variants.{Idle, Waiting, SendingUnsolicited, FinalWait}
 use Rattle.inactivity.specs.declared.ArqInactivity.{ArqInactivity}
 use Rattle.inactivity.specs.Inactivity.{newOf, renewed, clocked, turn, acts, done, resetOf, observeOf, receivedFrameOf, advanceOf, unsolicitedOf, solicitedOf}
 
@@ -59,3 +60,22 @@ pub settled : (advanceOf waits 131 .outcome ≡ gives None)
     × (newOf stop .«next_token» ≡ stop)
 unfolding resetOf observeOf receivedFrameOf advanceOf unsolicitedOf solicitedOf
 settled = (refl, refl, refl, refl, refl, refl, refl, refl, refl, refl, refl, refl, refl, refl, refl, refl, refl, refl, refl, refl, refl, refl, refl, refl, refl, refl, refl, refl)
+
+-- the states: what each call leaves, and what it does not touch
+pub passed : (newOf 7 ≡ record { state = Idle; «last_block» = 0; «unsolicited_pending» = false; transaction = record { 0 = 7 }; «next_token» = 8 })
+    × (waits ≡ record { state = Waiting 100; «last_block» = 100; «unsolicited_pending» = false; transaction = record { 0 = 7 }; «next_token» = 8 })
+    × (observeOf waits 120 .state ≡ record { state = Waiting 100; «last_block» = 120; «unsolicited_pending» = false; transaction = record { 0 = 7 }; «next_token» = 8 })
+    × (asked ≡ record { state = SendingUnsolicited; «last_block» = 132; «unsolicited_pending» = true; transaction = record { 0 = 7 }; «next_token» = 8 })
+    × (heard ≡ record { state = Waiting 140; «last_block» = 140; «unsolicited_pending» = true; transaction = record { 0 = 7 }; «next_token» = 8 })
+    × (told ≡ record { state = FinalWait 150; «last_block» = 150; «unsolicited_pending» = false; transaction = record { 0 = 7 }; «next_token» = 8 })
+    × (advanceOf told 182 .state ≡ record { state = Idle; «last_block» = 182; «unsolicited_pending» = false; transaction = record { 0 = 8 }; «next_token» = 9 })
+    × (resetOf asked .state ≡ record { state = Idle; «last_block» = 132; «unsolicited_pending» = false; transaction = record { 0 = 8 }; «next_token» = 9 })
+    × (solicitedOf waits (record { 0 = 7 }) 120 Sent .state .state ≡ Waiting 120)
+    × (unsolicitedOf asked (record { 0 = 8 }) 900 Failed ≡ acts (turn None asked))
+    × (advanceOf (newOf 7) 900 .outcome ≡ gives None)
+    × (advanceOf asked 900 .outcome ≡ gives None)
+    × (observeOf told 150 .outcome ≡ gives tt)
+    × (receivedFrameOf told 149 ≡ record { outcome = refuses 17; state = told })
+    × (receivedFrameOf (left 3) 132 .outcome ≡ gives tt)
+unfolding resetOf observeOf receivedFrameOf advanceOf unsolicitedOf solicitedOf
+passed = (refl, refl, refl, refl, refl, refl, refl, refl, refl, refl, refl, refl, refl, refl, refl)

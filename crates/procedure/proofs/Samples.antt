@@ -27,6 +27,7 @@ use Rattle.receiver.specs.declared.Delivery.the-variants as deliveries
 use Rattle.receiver.specs.Receiver as R
 use Rattle.receiver.specs.Receiver.{slotAt, putSlot, gathered, assembled, finish, pushContinue, pushFrame}
 use Rattle.inactivity.specs.declared.StatusResult.the-variants as results
+use Rattle.inactivity.specs.declared.State.the-variants.{Idle, Waiting}
 use Rattle.inactivity.specs.Inactivity as I
 use Rattle.procedure.specs.declared.StatusKind.the-variants.{Solicited}
 use Rattle.procedure.specs.declared.StatusTransmission.{StatusTransmission}
@@ -115,6 +116,10 @@ back = runs longer (advance 132 ∷ receive 140 (frame twenty 1) room ∷ [])
 abbrev whole : ArqProcedure
 whole = runs begun (receive 101 (polled seven 1) room ∷ [])
 
+-- the Begin of an order to another
+abbrev foreign : List ℕ
+foreign = octetsIn (encodeOf (cutFrame header (Tmsi20 2) seven 0))
+
 -- by the timer: 31 and 32 blocks, the second wait, what ends the transaction, and its token numbers
 pub settled : (newOf identity 7 ≡ gives (fresh 7))
     × (present begun .0 ≡ 8)
@@ -164,6 +169,22 @@ pub received : (receiveOf begun 101 (frame seven 1) room .buffer ≡ seven ++ re
     × (resetOf (fresh (stop - 4)) .outcome ≡ refuses 18)
 unfolding runs receiveOf accepted advanceOf statusSentOf resetOf pushFrame pushContinue finish assembled gathered slotAt putSlot same ones onesIn decodeOf headerAAt addressAt bitsOf bits value octets field upTo layout anySet encodeOf beginFrame continueFrame packed encodable inRange
 received = (refl, refl, refl, refl, refl, refl, refl, refl, refl, refl, refl, refl, refl, refl, refl, refl, refl, refl, refl, refl, refl)
+
+-- by the wait: it begins anew only with a frame that is accepted and leaves the message incomplete, and with a status that was sent
+pub waited : (whole .inactivity .state ≡ Waiting 100)
+    × (runs (fresh 7) (receive 100 (polled (65 ∷ []) 0) room ∷ []) .inactivity .state ≡ Idle)
+    × (advanceOf whole 900 .state .inactivity .«last_block» ≡ 900)
+    × (receiveOf begun 120 foreign room .outcome ≡ gives receives.Ignored)
+    × (receiveOf begun 120 foreign room .procedure .inactivity ≡ I.clocked (begun .inactivity) 120)
+    × (receiveOf begun 120 (frame twenty 2) room .outcome ≡ refuses 12)
+    × (receiveOf begun 120 (frame twenty 2) room .procedure .inactivity ≡ I.clocked (begun .inactivity) 120)
+    × (receiveOf begun 120 (1 ∷ []) room .procedure .inactivity ≡ I.clocked (begun .inactivity) 120)
+    × (receiveOf begun 120 (1 ∷ []) (replicate 254 0) .outcome ≡ refuses 16)
+    × (statusSentOf begun 120 (status 8 0 false) results.Sent .outcome ≡ gives sends.Pending)
+    × (statusSentOf begun 120 (status 8 0 false) results.Sent .state .inactivity .state ≡ Waiting 120)
+    × (statusSentOf begun 120 (status 8 0 false) results.Failed .outcome ≡ gives sends.Failed)
+unfolding runs receiveOf accepted advanceOf statusSentOf pushFrame pushContinue finish assembled gathered slotAt putSlot same ones onesIn decodeOf headerAAt addressAt bitsOf bits value octets field upTo layout anySet encodeOf beginFrame continueFrame packed encodable inRange
+waited = (refl, refl, refl, refl, refl, refl, refl, refl, refl, refl, refl, refl)
 
 -- ---- the statements over lists of calls are not empty
 
