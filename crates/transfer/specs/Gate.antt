@@ -74,8 +74,8 @@ timesOf {v} {m} s =
     let d = doing v m (s .earlier) (s .call) in
     record { prepared = d .sender .clock .«last_ms»; until = holdOf (d .sender) (s .frame .«partial_echo»); guard = v .limits .«echo_guard_ms» }
 
--- a frame is in time for a Begin: prepared at most a guard before it (after it, say: `after-begin`), and while the Begin's echo is
--- held. So is every frame that is heard after the Begin and before that hold ends, if it is on its way for at most a guard
+-- a frame is in time for a Begin: prepared after it (`after-begin`) or at most a guard before it, and while the Begin's echo is held.
+-- So is every frame that is heard after the Begin and before that hold ends, if it is on its way for at most a guard
 abbrev pub InTime : (begin frame : Times) → Type 0
 InTime b f = (b .prepared ≤ f .prepared + f .guard) × (f .prepared < b .until)
 
