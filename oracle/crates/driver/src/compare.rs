@@ -1,31 +1,41 @@
 //! Random scripts through both sides, and every octet that they answer compared.
-use crate::{generate, hex::hex, port, random::Random};
-use bts136::harness::script::{
-    self, ANSWERED, END, END_CUT, END_NO_ROOM, END_UNKNOWN, OPERATIONS, Operation, Step,
+use crate::{
+    counter,
+    counts::{Counts, report},
+    generate,
+    hex::hex,
+    port::Port,
+    random::Random,
 };
-use std::{collections::BTreeMap, process::ExitCode};
+use bts136::harness::script::{self, ANSWERED, OPERATIONS, Step};
+use std::process::ExitCode;
 
 /// Octets before and after the room for the answers, which nobody may write.
 const GUARD: usize = 16;
 
 pub fn main(seed: u64, count: u64) -> ExitCode {
-    let mut random = Random(seed);
-    let mut tally = Tally::default();
-    while tally.operations < count {
-        match Case::new(&mut random).compare() {
-            Ok((steps, answers)) => tally.add(&steps, &answers),
-            Err(difference) => {
-                println!("seed {seed}, script {}, {difference}", tally.scripts);
-                return ExitCode::FAILURE;
+    report(
+        run(seed, count, Port::LINKED),
+        |Counts { tally, .. }| {
+            for row in &OPERATIONS {
+                tally.print_operation(row);
             }
-        }
-    }
-    tally.print();
-    println!(
-        "compared {} operations in {} scripts, seed {seed}: no difference",
-        tally.operations, tally.scripts
-    );
-    ExitCode::SUCCESS
+            counter::print(&tally.end_rows("end octets"));
+            println!(
+                "compared {} operations in {} scripts, seed {seed}: no difference",
+                tally.operations, tally.scripts
+            );
+        },
+    )
+}
+/// At least so many operations.
+pub fn run(seed: u64, count: u64, port: Port) -> Result<Counts, String> {
+    Counts::until(
+        seed,
+        port,
+        |counts| counts.tally.operations >= count,
+        |random, _| Case::new(random),
+    )
 }
 
 /// A script, the room for its answers, and the octet that fills the room before.
@@ -46,10 +56,10 @@ impl Case {
         }
     }
     /// The original's steps and answers, or what differs.
-    pub fn compare(&self) -> Result<(Vec<Step>, Answers), String> {
+    pub fn compare(&self, port: Port) -> Result<(Vec<Step>, Answers), String> {
         self.between(
             |script, room, steps| script::run_each(script, room, |step| steps.push(step)),
-            port::run,
+            port.run,
         )
     }
     /// The same of two sides that are handed in, the first of which tells its steps.
@@ -155,103 +165,12 @@ impl Answers {
         let end = start + returned.clamp(1, most);
         hex(&self.buffer[start..end.min(self.buffer.len())])
     }
-    fn number<M>(&self, step: &Step<M>) -> u8 {
-        self.answer(step)[0]
-    }
-    pub fn answer<M>(&self, step: &Step<M>) -> &[u8] {
-        &self.buffer[GUARD + step.answer.start..GUARD + step.answer.end]
+    /// The octets that may be written, the first answer first.
+    pub fn room(&self) -> &[u8] {
+        &self.buffer[GUARD..self.buffer.len() - GUARD]
     }
     /// `None` if there was no room for it.
-    fn end(&self) -> Option<u8> {
-        let written = &self.buffer[GUARD..GUARD + self.length];
-        written.last().copied()
-    }
-}
-
-/// How many operations were answered by each number octet, and how many scripts ended by each end octet.
-#[derive(Default)]
-pub struct Tally {
-    pub scripts: u64,
-    pub operations: u64,
-    numbers: BTreeMap<(u8, u8), u64>,
-    ends: BTreeMap<Option<u8>, u64>,
-}
-impl Tally {
-    pub fn add<M>(&mut self, steps: &[Step<M>], answers: &Answers) {
-        self.scripts += 1;
-        self.operations += steps.len() as u64;
-        *self.ends.entry(answers.end()).or_default() += 1;
-        for step in steps {
-            let key = (step.operation.op, answers.number(step));
-            *self.numbers.entry(key).or_default() += 1;
-        }
-    }
-    /// A whole script, whose answers these are.
-    pub fn add_steps<M>(&mut self, steps: &[Step<M>], answers: &[u8]) {
-        self.scripts += 1;
-        self.operations += steps.len() as u64;
-        for step in steps {
-            let key = (step.operation.op, answers[step.answer.start]);
-            *self.numbers.entry(key).or_default() += 1;
-        }
-    }
-    /// The number octets of these rows that were not seen.
-    pub fn missing<M>(&self, rows: &[Operation<M>]) -> Vec<String> {
-        let numbers = rows.iter().flat_map(|row| {
-            let numbers = [ANSWERED].iter().chain(row.refusals);
-            numbers.map(move |number| (row, *number))
-        });
-        numbers
-            .filter(|(row, number)| !self.numbers.contains_key(&(row.op, *number)))
-            .map(|(row, number)| format!("{} {number}", row.name))
-            .collect()
-    }
-    /// The ends that were not seen: each end octet, and none at all.
-    pub fn missing_ends(&self) -> Vec<String> {
-        let octets = [END, END_CUT, END_UNKNOWN, END_NO_ROOM].map(Some);
-        let ends = octets.into_iter().chain([None]);
-        ends.filter(|end| !self.ends.contains_key(end))
-            .map(|end| format!("end {end:02x?}"))
-            .collect()
-    }
-    /// Only the operations and number octets that were seen.
-    pub fn print_seen(&self) {
-        for operation in &OPERATIONS {
-            let rows = self.numbers.range((operation.op, 0)..=(operation.op, 255));
-            let total: u64 = rows.clone().map(|(_, count)| count).sum();
-            if total > 0 {
-                print!("{:#04x} {:17} {total:9}", operation.op, operation.name);
-                rows.for_each(|((_, number), count)| print!("  {number}: {count}"));
-                println!();
-            }
-        }
-    }
-    fn print(&self) {
-        OPERATIONS.iter().for_each(|row| self.print_operation(row));
-        self.print_ends();
-    }
-    pub fn print_ends(&self) {
-        print!("end octets:");
-        for (end, count) in &self.ends {
-            match end {
-                Some(end) => print!("  {end:#04x}: {count}"),
-                None => print!("  none: {count}"),
-            }
-        }
-        println!();
-    }
-    pub fn print_operation<M>(&self, operation: &Operation<M>) {
-        let numbers = [ANSWERED].iter().chain(operation.refusals);
-        let counts = numbers.map(|number| {
-            let count = self.numbers.get(&(operation.op, *number));
-            (number, count.copied().unwrap_or(0))
-        });
-        let total: u64 = counts.clone().map(|(_, count)| count).sum();
-        print!("{:#04x} {:17} {total:9}", operation.op, operation.name);
-        for (number, count) in counts {
-            let unseen = if count == 0 { " (not seen)" } else { "" };
-            print!("  {number}: {count}{unseen}");
-        }
-        println!();
+    pub fn end(&self) -> Option<u8> {
+        self.room()[..self.length].last().copied()
     }
 }

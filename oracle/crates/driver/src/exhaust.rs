@@ -1,14 +1,16 @@
 //! DECODE, ENCODE and FRAME on whole ranges of their operands.
 use crate::{
-    compare::{Case, Tally},
+    compare::Case,
+    counts::{Counts, differs, report},
     generate::{
         MESSAGE_EIGHTHS, decode_operands, encoded, fill_all, frames, good_begin, good_parsed,
         identity_operand, packed, room, set,
     },
+    port::Port,
     random::Random,
 };
 use bts136::harness::{
-    script::{COUNT, DECODE, ENCODE, FRAME, MESSAGE},
+    script::{COUNT, DECODE, ENCODE, FRAME, MESSAGE, OPERATIONS},
     wire::{self, FRAME_OCTETS},
 };
 use std::process::ExitCode;
@@ -28,38 +30,45 @@ const MESSAGES: usize = 100;
 const LONGEST_MESSAGE: usize = 256;
 
 pub fn main(seed: u64) -> ExitCode {
+    let compared = run(seed, Port::LINKED, |what, operations| {
+        println!("{what}: {operations} operations");
+    });
+    report(compared, |Counts { tally, .. }| {
+        tally.print_met(&OPERATIONS);
+        println!(
+            "compared {} operations in {} scripts, seed {seed}: no difference",
+            tally.operations, tally.scripts
+        );
+    })
+}
+/// All stages; each is told with how many operations it had.
+pub fn run(seed: u64, port: Port, told: impl Fn(&str, u64)) -> Result<Counts, String> {
     let mut run = Run {
         random: Random(seed),
         script: Vec::new(),
         operations: 0,
-        tally: Tally::default(),
+        port,
+        counts: Counts::default(),
+        told,
     };
     match run.stages() {
-        Ok(()) => {
-            run.tally.print_seen();
-            println!(
-                "compared {} operations in {} scripts, seed {seed}: no difference",
-                run.tally.operations, run.tally.scripts
-            );
-            ExitCode::SUCCESS
-        }
-        Err(difference) => {
-            println!("seed {seed}, script {}, {difference}", run.tally.scripts);
-            ExitCode::FAILURE
-        }
+        Ok(()) => Ok(run.counts),
+        Err(difference) => Err(differs(seed, run.counts.tally.scripts, &difference)),
     }
 }
 
 type Compared = Result<(), String>;
 
 /// Operations that wait to be compared, and those that were.
-struct Run {
+struct Run<T> {
     random: Random,
     script: Vec<u8>,
     operations: usize,
-    tally: Tally,
+    port: Port,
+    counts: Counts,
+    told: T,
 }
-impl Run {
+impl<T: Fn(&str, u64)> Run<T> {
     fn stages(&mut self) -> Compared {
         self.stage("DECODE of every first 15 bits", Self::first_bits)?;
         self.stage("ENCODE and DECODE of every octet count", Self::counts)?;
@@ -67,10 +76,10 @@ impl Run {
         self.stage("COUNT and every FRAME of every length", Self::cuts)
     }
     fn stage(&mut self, what: &str, run: impl FnOnce(&mut Self) -> Compared) -> Compared {
-        let before = self.tally.operations;
+        let before = self.counts.tally.operations;
         run(self)?;
         self.compare()?;
-        println!("{what}: {} operations", self.tally.operations - before);
+        (self.told)(what, self.counts.tally.operations - before);
         Ok(())
     }
     fn push(&mut self, op: u8, operands: &[&[u8]]) {
@@ -91,10 +100,9 @@ impl Run {
             room: ANSWER_OCTETS * self.operations + 1,
             filler: self.random.octet(),
         };
-        let (steps, answers) = case.compare()?;
-        assert_eq!(steps.len(), self.operations, "every operation was run");
         self.operations = 0;
-        self.tally.add(&steps, &answers);
+        self.counts.compare(&case, self.port)?;
+        assert!(self.counts.tally.whole(), "every operation was run");
         Ok(())
     }
     fn decode(&mut self, frame: &[u8; FRAME_OCTETS]) -> Compared {

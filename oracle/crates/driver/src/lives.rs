@@ -1,20 +1,24 @@
 //! Lives of a timer or of a procedure: the original answers each call as it is made, so that tokens and transmissions of
 //! later calls are, mostly, those of its answers.
 use crate::{
-    compare::{Answers, Case, Tally},
+    compare::Case,
+    counter,
+    counts::{Counts, report},
     generate::{good_identity, identity},
+    port::Port,
     random::Random,
     receive::{self, Parsed, Transfer},
+    timer::Timer,
 };
 use bts136::harness::{
     script::{
-        ADVANCE, ANSWERED, Machine, OPERATIONS, PROCEDURE, PROCEDURE_ACTIVE, PROCEDURE_RESET,
-        PROCEDURE_STATE, RECEIVE, SENT, Step, TIMER, TIMER_ADVANCE, TIMER_OBSERVE, TIMER_OWNS,
+        ADVANCE, Machine, OPERATIONS, PROCEDURE, PROCEDURE_ACTIVE, PROCEDURE_RESET,
+        PROCEDURE_STATE, RECEIVE, SENT, TIMER, TIMER_ADVANCE, TIMER_OBSERVE, TIMER_OWNS,
         TIMER_RECEIVED, TIMER_RESET, TIMER_SOLICITED, TIMER_STATE, TIMER_TOKEN, TIMER_UNSOLICITED,
     },
     wire::TRANSMISSION_OCTETS,
 };
-use std::{collections::BTreeMap, process::ExitCode};
+use std::process::ExitCode;
 
 /// The longest answer, and an end octet.
 const LONGEST: usize = 337;
@@ -26,36 +30,31 @@ const MODE: usize = 5;
 const KIND: usize = 14;
 const COMPLETE_AT_POLL: usize = 15;
 
-/// So many lives, timers and procedures in turn.
 pub fn main(seed: u64, count: u64) -> ExitCode {
-    let mut random = Random(seed);
-    let (mut tally, mut events) = (Tally::default(), Events::default());
-    while tally.scripts < count {
-        let life = Life::new(&mut random, tally.scripts);
-        let operations = life.ends.len();
-        match life.case(&mut random).compare() {
-            Ok((steps, answers)) => {
-                assert_eq!(steps.len(), operations, "the whole life was lived");
-                tally.add(&steps, &answers);
-                events.add(&steps, &answers);
-            }
-            Err(difference) => {
-                println!("seed {seed}, script {}, {difference}", tally.scripts);
-                return ExitCode::FAILURE;
-            }
-        }
-    }
-    for row in OPERATIONS.iter().filter(|row| row.op >= TIMER) {
-        tally.print_operation(row);
-        events.print(row.op);
-    }
-    println!(
-        "compared {} operations in the lives of {} timers and {} procedures, seed {seed}: no difference",
-        tally.operations,
-        tally.scripts.div_ceil(2),
-        tally.scripts / 2
-    );
-    ExitCode::SUCCESS
+    report(
+        run(seed, count, Port::LINKED),
+        |Counts { tally, cases, .. }| {
+            tally.print_met(&OPERATIONS);
+            counter::print(&cases.rows_from(TIMER));
+            println!(
+                "compared {} operations in the lives of {} timers and {} procedures, seed {seed}: no difference",
+                tally.operations,
+                tally.scripts.div_ceil(2),
+                tally.scripts / 2
+            );
+        },
+    )
+}
+/// So many lives, timers and procedures in turn.
+pub fn run(seed: u64, count: u64, port: Port) -> Result<Counts, String> {
+    let counts = Counts::until(
+        seed,
+        port,
+        |counts| counts.tally.scripts >= count,
+        |random, turn| Life::new(random, turn).case(random),
+    )?;
+    assert!(counts.tally.whole(), "every life was lived whole");
+    Ok(counts)
 }
 
 /// A life as it is made, and the machine that lives it.
@@ -66,10 +65,8 @@ pub struct Life {
     answered: usize,
     machine: Machine,
     state_op: u8,
-    /// As the last state has them.
-    since: u64,
-    last_block: u64,
-    next: u64,
+    /// As the last state has it.
+    timer: Timer,
     /// Every token that was current, the present one last, and every transmission that was given out.
     tokens: Vec<u64>,
     transmissions: Vec<[u8; TRANSMISSION_OCTETS]>,
@@ -94,9 +91,7 @@ impl Life {
             answered: 0,
             machine: Machine::default(),
             state_op,
-            since: 0,
-            last_block: 0,
-            next: 0,
+            timer: Timer::default(),
             tokens: vec![0],
             transmissions: Vec::new(),
         }
@@ -128,8 +123,8 @@ impl Life {
             self.transmissions.push(*given);
         }
         let state = self.step(self.state_op, &[]);
-        if state[0] == ANSWERED {
-            self.observe(&state);
+        if let Some(timer) = Timer::of(&state) {
+            self.observe(timer);
         }
     }
     fn step(&mut self, op: u8, operands: &[u8]) -> Vec<u8> {
@@ -141,13 +136,11 @@ impl Life {
         self.answered += length;
         room[..length].to_vec()
     }
-    fn observe(&mut self, state: &[u8]) {
-        let word = |at: usize| u64::from_be_bytes(*state[at..].first_chunk().expect("a timer"));
-        (self.since, self.last_block, self.next) = (word(2), word(10), word(27));
-        let token = word(19);
-        if self.tokens.last() != Some(&token) {
-            self.tokens.push(token);
+    fn observe(&mut self, timer: Timer) {
+        if self.tokens.last() != Some(&timer.token) {
+            self.tokens.push(timer.token);
         }
+        self.timer = timer;
     }
 
     /// Forward by little, by a wait or just not, or by any; now and then back.
@@ -162,10 +155,10 @@ impl Life {
             37 => return random.any_length().to_be_bytes(),
             _ => {
                 let back = 1 + random.below(40) as u64;
-                return self.last_block.saturating_sub(back).to_be_bytes();
+                return self.timer.last_block.saturating_sub(back).to_be_bytes();
             }
         };
-        self.last_block.saturating_add(step).to_be_bytes()
+        self.timer.last_block.saturating_add(step).to_be_bytes()
     }
     /// The block at which a wait ends, the one before, or the one after; or any.
     fn end_of_wait(&self, random: &mut Random) -> [u8; 8] {
@@ -173,7 +166,11 @@ impl Life {
             return self.block(random);
         }
         let wait = random.pick(&[31, 32, 32, 33]);
-        let end = self.since.saturating_add(wait).max(self.last_block);
+        let end = self
+            .timer
+            .since
+            .saturating_add(wait)
+            .max(self.timer.last_block);
         end.to_be_bytes()
     }
     /// Mostly the present one; else an older one, one that is not yet, a neighbour or any.
@@ -182,7 +179,7 @@ impl Life {
         match random.below(20) {
             0..=13 => present,
             14..=16 => random.pick(&self.tokens),
-            17 => self.next,
+            17 => self.timer.next,
             18 => random.pick(&[present.wrapping_sub(1), present.wrapping_add(1)]),
             _ => number(random),
         }
@@ -351,62 +348,11 @@ fn length(random: &mut Random) -> usize {
     }
 }
 
-/// The events of an operation by their numbers.
-const EVENTS: [(u8, &[&str]); 6] = [
-    (TIMER_ADVANCE, &ACTIONS),
-    (TIMER_UNSOLICITED, &ACTIONS),
-    (TIMER_SOLICITED, &ACTIONS),
-    (
-        RECEIVE,
-        &[
-            "Ignored",
-            "accepted",
-            "message",
-            "status",
-            "message and status",
-        ],
-    ),
-    (ADVANCE, &["None", "SendStatus", "Terminated"]),
-    (SENT, &["Ignored", "Pending", "Complete", "Failed"]),
-];
-const ACTIONS: [&str; 3] = ["None", "RequestUnsolicitedStatus", "Terminate"];
-
-/// How many calls were answered by each event.
-#[derive(Default)]
-struct Events(BTreeMap<(u8, u8), u64>);
-impl Events {
-    fn add(&mut self, steps: &[Step], answers: &Answers) {
-        for step in steps {
-            self.add_answer(step.operation.op, answers.answer(step));
-        }
-    }
-    fn add_answer(&mut self, op: u8, answer: &[u8]) {
-        if let [ANSWERED, event, ..] = *answer
-            && EVENTS.iter().any(|(known, _)| *known == op)
-        {
-            let event = match op {
-                RECEIVE => event + answer[2] + 2 * answer[RECEIVE_TRANSMISSION],
-                _ => event,
-            };
-            *self.0.entry((op, event)).or_default() += 1;
-        }
-    }
-    fn print(&self, op: u8) {
-        for (_, names) in EVENTS.iter().filter(|(known, _)| *known == op) {
-            print!("{:22}", "");
-            for (event, name) in (0..).zip(*names) {
-                print!("  {name}: {}", self.0.get(&(op, event)).unwrap_or(&0));
-            }
-            println!();
-        }
-    }
-}
-
 #[cfg(test)]
 mod tests {
     use super::*;
     use crate::generate::tests::assert_all_reached;
-    use bts136::harness::script::{operation, run_each};
+    use bts136::harness::script::operation;
 
     fn scripts(count: u64) -> Vec<Vec<u8>> {
         let mut random = Random(1);
@@ -418,25 +364,10 @@ mod tests {
         assert_all_reached(&OPERATIONS[usize::from(TIMER) - 1..], &scripts(4000));
     }
     #[test]
-    fn lives_have_every_event() {
-        let mut events = Events::default();
-        let mut answers = vec![0; 1 << 16];
-        for script in scripts(2000) {
-            let mut steps = Vec::new();
-            run_each(&script, &mut answers, |step| steps.push(step));
-            for step in steps {
-                events.add_answer(step.operation.op, &answers[step.answer]);
-            }
-        }
-        for (op, names) in EVENTS {
-            for (event, name) in (0..).zip(names) {
-                // A result never asks for a status.
-                if *name != ACTIONS[1] || op == TIMER_ADVANCE {
-                    let operation = operation(op).expect("of the table").name;
-                    assert!(events.0.contains_key(&(op, event)), "{operation} {name}");
-                }
-            }
-        }
+    fn lives_have_every_case_of_their_operations() {
+        let counts = run(1, 20_000, Port::DRY).expect("the same twice");
+        let rows = counts.cases.rows_from(TIMER);
+        assert_eq!(counter::missing(&rows), Vec::<String>::new());
     }
     #[test]
     fn a_life_ends_after_so_many_operations() {

@@ -1,6 +1,8 @@
 //! Safe names of what the port exports. A slice is two C arguments there, pointer then length.
 //!
 //! None of these has a precondition beyond a valid slice, and Rust's borrows keep the slices apart.
+use bts136::harness::script;
+
 mod raw {
     unsafe extern "C" {
         pub fn script_run(script: *const u8, length: usize, answers: *mut u8, room: usize)
@@ -58,6 +60,23 @@ mod raw {
             rounds: u64,
         ) -> u64;
     }
+}
+
+/// The side that is compared with the original.
+#[derive(Clone, Copy)]
+pub struct Port {
+    pub run: fn(&[u8], &mut [u8]) -> usize,
+    pub sender_run: SenderRun,
+}
+/// How a side runs a sender's script on a memory.
+pub type SenderRun = fn(&[u8], &mut [u8], &mut [u8], &mut [u64]) -> usize;
+impl Port {
+    pub const LINKED: Self = Self { run, sender_run };
+    /// The original in the port's place.
+    pub const DRY: Self = Self {
+        run: script::run,
+        sender_run: script::sender::run_sender,
+    };
 }
 
 pub fn run(script: &[u8], answers: &mut [u8]) -> usize {

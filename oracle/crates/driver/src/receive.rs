@@ -1,14 +1,16 @@
 //! Transfers to a receiver: cut by the original, then shuffled, repeated, lost, and with other frames among them.
 use crate::{
-    compare::{Case, Tally},
+    compare::Case,
+    counts::{Counts, report},
     generate::{
         append, decode_operands, encoded, flip_a_bit, good_header, good_identity, good_parsed,
         identity, spoiled,
     },
+    port::Port,
     random::Random,
 };
 use bts136::harness::{
-    script::{ANSWERED, COMPLETE, LEAST_ROOM, MESSAGE_OCTETS, NEW, PUSH, RESET, STATUS},
+    script::{COMPLETE, LEAST_ROOM, MESSAGE_OCTETS, NEW, OPERATIONS, PUSH, RESET, STATUS},
     wire::{self, HEADER_OCTETS, PARSED_OCTETS},
 };
 use std::process::ExitCode;
@@ -29,39 +31,33 @@ const TYPE: usize = 24;
 const NUMBER: usize = 25;
 const DATA: usize = 26;
 const DATA_BITS: usize = 79;
-/// The place of an answered push that tells whether a message was delivered.
-const DELIVERED: usize = 2;
 
 pub type Parsed = [u8; PARSED_OCTETS];
 type Operations = Vec<Vec<u8>>;
 
-/// Scripts of transfers alone, until so many pushes were compared.
 pub fn main(seed: u64, count: u64) -> ExitCode {
-    let mut random = Random(seed);
-    let mut tally = Tally::default();
-    let (mut pushes, mut deliveries) = (0u64, 0u64);
-    while pushes < count {
-        match script(&mut random).compare() {
-            Ok((steps, answers)) => {
-                tally.add(&steps, &answers);
-                for step in steps.iter().filter(|step| step.operation.op == PUSH) {
-                    pushes += 1;
-                    let answer = answers.answer(step);
-                    deliveries += u64::from(answer[0] == ANSWERED && answer[DELIVERED] == 1);
-                }
-            }
-            Err(difference) => {
-                println!("seed {seed}, script {}, {difference}", tally.scripts);
-                return ExitCode::FAILURE;
-            }
-        }
-    }
-    tally.print_seen();
-    println!(
-        "compared {pushes} pushes, {deliveries} of them with a message, in {} scripts, seed {seed}: no difference",
-        tally.scripts
-    );
-    ExitCode::SUCCESS
+    report(
+        run(seed, count, Port::LINKED),
+        |Counts { tally, cases, .. }| {
+            tally.print_met(&OPERATIONS);
+            let deliveries = ["message", "message and status"].map(|case| cases.of(PUSH, case));
+            println!(
+                "compared {} pushes, {} of them with a message, in {} scripts, seed {seed}: no difference",
+                tally.of_op(PUSH),
+                deliveries.iter().sum::<u64>(),
+                tally.scripts
+            );
+        },
+    )
+}
+/// Scripts of transfers alone, until so many pushes were compared.
+pub fn run(seed: u64, count: u64, port: Port) -> Result<Counts, String> {
+    Counts::until(
+        seed,
+        port,
+        |counts| counts.tally.of_op(PUSH) >= count,
+        |random, _| script(random),
+    )
 }
 fn script(random: &mut Random) -> Case {
     let mut operations = Vec::new();

@@ -1,9 +1,12 @@
 //! Lives of a sender: the original answers each call as it is made, so that tokens, echoes and clocks of later calls are,
 //! mostly, those of its state.
 use crate::{
-    compare::{Answers, Case, Tally},
+    compare::{Answers, Case},
+    counter::{self, Row},
+    counts::{Counts, differs, report},
     generate::{MESSAGE_EIGHTHS, good_identity, identity, identity_operand},
-    lives, port,
+    lives,
+    port::{Port, SenderRun as Run},
     random::Random,
 };
 use bts136::harness::{
@@ -14,67 +17,73 @@ use bts136::harness::{
             IDENTITY_FOR_ECHO, INTERRUPT, LEND, Machine, OPERATIONS, PENDING, POP_EVENT, PREPARE,
             PRIORITIZED, RADIO_ACTIVE, READY, REFRESH, SENDER, SENDER_ADVANCE, SENDER_ECHOES,
             SENDER_EVENT, SENDER_STATE, SENDER_STATUS, SENDER_SUMS, SENDER_TRANSFER, SUBMITTED,
-            SUBMITTED_MESSAGE, Step, TRANSMITTED, operation, run_sender, run_sender_each,
+            SUBMITTED_MESSAGE, Step, TRANSMITTED, operation, run_sender_each,
         },
     },
     sending::{LENT_OCTETS, LENT_WORDS, Live, NEEDED_OCTETS, NEEDED_WORDS, Sending, Token},
 };
-use std::process::ExitCode;
+use std::{ops::Range, process::ExitCode};
 
 mod seen;
-use seen::{Forged, Seen};
+use seen::Forged;
+pub use seen::Seen;
 
 /// The longest answer of a sender's operations, and an end octet.
 const LONGEST: usize = 130;
 /// Of PREPARE and of PRIORITIZED, where the token of an answer stands.
 const PREPARED_TOKEN: usize = 25;
 const LAST: u64 = u64::MAX;
+/// The group of how spoiled scripts end.
+pub const SPOILED: &str = "spoiled scripts' ends";
 /// The lengths of a script's memory.
 const WHOLE: (usize, usize) = (LENT_OCTETS, LENT_WORDS);
 
-/// How a side runs a script on a memory.
-type Run = fn(&[u8], &mut [u8], &mut [u8], &mut [u64]) -> usize;
-
-/// So many lives. A dry run has the original on both sides.
-pub fn main(seed: u64, count: u64, dry: bool) -> ExitCode {
-    let other: Run = if dry { run_sender } else { port::sender_run };
+pub fn main(seed: u64, count: u64, port: Port) -> ExitCode {
+    let compared = run(seed, count, port).and_then(|counts| {
+        counts.print_senders();
+        match counter::missing(&counts.sender_rows()) {
+            missing if missing.is_empty() => Ok(counts),
+            missing => Err(format!("not seen: {}", missing.join(", "))),
+        }
+    });
+    report(compared, |Counts { senders, seen, .. }| {
+        println!(
+            "compared {} operations, {} of them calls, in the lives of {} senders, seed {seed}: no difference",
+            senders.operations, seen.calls, senders.scripts
+        );
+    })
+}
+/// So many lives.
+pub fn run(seed: u64, count: u64, port: Port) -> Result<Counts, String> {
     // What is spoiled has a source of its own: the lives of a seed are the same without it.
     let (mut random, mut spoiling) = (Random(seed), Random(!seed));
-    let (mut tally, mut spoiled, mut seen) = (Tally::default(), Tally::default(), Seen::default());
-    while tally.scripts < count {
-        let life = Life::new(&mut random, &mut seen);
-        let compared = life.compare(&mut random, other);
-        let compared = compared.and_then(|()| life.compare_spoiled(&mut spoiling, other));
-        match compared {
-            Ok((steps, answers)) => spoiled.add(&steps, &answers),
-            Err(difference) => {
-                println!("seed {seed}, script {}, {difference}", tally.scripts);
-                return ExitCode::FAILURE;
-            }
-        }
-        tally.add_steps(&life.steps, &life.answers);
+    let mut counts = Counts::default();
+    while counts.senders.scripts < count {
+        let life = Life::new(&mut random, &mut counts.seen);
+        let compared = life.compare(&mut random, port.sender_run);
+        let compared = compared.and_then(|()| life.compare_spoiled(&mut spoiling, port.sender_run));
+        let (steps, answers) =
+            compared.map_err(|difference| differs(seed, counts.senders.scripts, &difference))?;
+        counts.spoiled.add(&steps, &answers);
+        counts.senders.add_steps(&life.steps, &life.answers);
     }
-    OPERATIONS.iter().for_each(|row| tally.print_operation(row));
-    seen.print();
-    print!("of {} spoiled scripts, ", spoiled.scripts);
-    spoiled.print_ends();
-    let missing = [
-        tally.missing(&OPERATIONS),
-        seen.missing(),
-        spoiled.missing_ends(),
-    ]
-    .concat();
-    for kind in &missing {
-        println!("not seen: {kind}");
+    Ok(counts)
+}
+impl Counts {
+    fn print_senders(&self) {
+        self.senders.print_met(&OPERATIONS);
+        counter::print(&self.seen.rows());
+        counter::print(&self.spoiled.end_rows(SPOILED));
     }
-    if !missing.is_empty() {
-        return ExitCode::FAILURE;
+    /// What must be met in the lives of senders.
+    pub fn sender_rows(&self) -> Vec<Row> {
+        [
+            self.senders.rows(&OPERATIONS),
+            self.seen.rows(),
+            self.spoiled.end_rows(SPOILED),
+        ]
+        .concat()
     }
-    println!(
-        "compared {} operations, {} of them calls, in the lives of {} senders, seed {seed}: no difference",
-        tally.operations, seen.calls, tally.scripts
-    );
-    ExitCode::SUCCESS
 }
 
 /// A memory to lend, of zeros at first.
@@ -155,6 +164,8 @@ struct Life {
     completion: u64,
     /// How many calls are left before all is lent again.
     short: usize,
+    /// The octets and words that are lent.
+    lent: (usize, usize),
 }
 /// How a life goes, each in percent.
 struct Style {
@@ -185,13 +196,15 @@ impl Style {
     }
 }
 /// How a life begins: 128 transfers; some replaced when all are overdue, which share echoes then; those all replaced, and
-/// all cancelled; or 64 of 128, a frame of each of which is submitted, and which restart in one call.
+/// all cancelled; the first few replaced twice, when the first few echoes are free, so that the second search passes 127; or 64
+/// of 128, a frame of each of which is submitted, and which restart in one call.
 #[derive(Clone, Copy, PartialEq, Eq)]
 enum Opening {
     Plain,
     Full,
     Shared,
     Replaced,
+    Passed,
     Half,
 }
 /// What a sender is made with.
@@ -209,6 +222,7 @@ impl Life {
             1 => Opening::Replaced,
             2 => Opening::Half,
             3..=5 => Opening::Shared,
+            6 => Opening::Passed,
             _ => Opening::Plain,
         };
         Self::of(random, seen, opening, calls)
@@ -226,6 +240,7 @@ impl Life {
             owners: Vec::new(),
             completion: 0,
             short: 0,
+            lent: (NEEDED_OCTETS, NEEDED_WORDS),
         };
         let limits = limits(random, opening);
         life.pool = pool(random, limits.capacity as usize);
@@ -236,10 +251,10 @@ impl Life {
         }
         if random.chance(2) {
             let capacity = random_capacity(random);
-            life.made(random, &Limits { capacity, ..limits });
+            life.made(random, seen, &Limits { capacity, ..limits });
             life.any_call(random, seen);
         }
-        life.made(random, &limits);
+        life.made(random, seen, &limits);
         let opened = life.open(random, seen, opening);
         for call in opened..calls {
             life.call(random, seen, call, calls);
@@ -361,7 +376,7 @@ impl Life {
     }
     /// A call and the state after it.
     fn lived(&mut self, random: &mut Random, seen: &mut Seen, op: u8, operands: &[&[u8]]) -> u8 {
-        let before = seen::Before::new(self.machine.sending(), op);
+        let before = seen::Before::new(self.machine.sending(), self.lent, op);
         self.step(op, operands);
         let call = self.steps.len() - 1;
         self.state(random);
@@ -444,7 +459,7 @@ impl Life {
             self.step(op, &[&octets]);
         }
     }
-    fn made(&mut self, random: &mut Random, limits: &Limits) {
+    fn made(&mut self, random: &mut Random, seen: &mut Seen, limits: &Limits) {
         let Limits {
             capacity,
             guard_ms,
@@ -452,24 +467,25 @@ impl Life {
             first,
         } = *limits;
         let words = [capacity, guard_ms, first_block, first].map(u64::to_be_bytes);
-        self.step(SENDER, &[&words.concat(), &[random.octet()]]);
+        let answer = self.step(SENDER, &[&words.concat(), &[random.octet()]]);
+        seen.made(capacity, answer[0]);
         self.state(random);
     }
     /// How many calls it took.
     fn open(&mut self, random: &mut Random, seen: &mut Seen, opening: Opening) -> usize {
         let before = seen.calls;
-        let asked = |life: &mut Self, random: &mut Random, seen: &mut Seen, place: usize| {
-            life.completion += 1;
-            let who = identity_operand(2, 1 + place as u64);
-            let words = [life.completion, 1 << 40].map(u64::to_be_bytes).concat();
-            let operands: [&[u8]; 5] = [&who, &[3], &words, &pair(1 + place % 9), &[0; 16]];
-            life.lived(random, seen, ENQUEUE, &operands);
-        };
         match opening {
             Opening::Plain => {}
-            Opening::Full => (0..128).for_each(|place| asked(self, random, seen, place)),
+            Opening::Full => self.ask(random, seen, 0..128, 1 << 40, 0),
+            Opening::Passed => {
+                let few = 1 + random.below(5);
+                self.ask(random, seen, 0..few, 5, 0);
+                self.ask(random, seen, few..128, 1 << 40, 0);
+                self.ask(random, seen, 0..few, 15, 10);
+                self.ask(random, seen, 0..few, 1 << 40, 20);
+            }
             Opening::Shared | Opening::Replaced => {
-                (0..128).for_each(|place| asked(self, random, seen, place));
+                self.ask(random, seen, 0..128, 1 << 40, 0);
                 let count = match opening {
                     Opening::Shared => 1 + random.pick(&[0, 0, 3, 20]),
                     _ => 128,
@@ -494,9 +510,7 @@ impl Life {
                 }
             }
             Opening::Half => {
-                for place in 0..64 {
-                    asked(self, random, seen, place);
-                }
+                self.ask(random, seen, 0..64, 1 << 40, 0);
                 for _ in 0..64 {
                     self.lived(random, seen, PREPARE, &[&[0; 16]]);
                     let token = self.selected().map_or([0; 24], token_octets);
@@ -508,6 +522,24 @@ impl Life {
             }
         }
         (seen.calls - before) as usize
+    }
+    /// An enqueue for each of these, with one deadline and at one time.
+    fn ask(
+        &mut self,
+        random: &mut Random,
+        seen: &mut Seen,
+        places: Range<usize>,
+        deadline: u64,
+        now: u64,
+    ) {
+        for place in places {
+            self.completion += 1;
+            let who = identity_operand(2, 1 + place as u64);
+            let words = [self.completion, deadline].map(u64::to_be_bytes).concat();
+            let clock = clock_octets(0, now);
+            let operands: [&[u8]; 5] = [&who, &[3], &words, &pair(1 + place % 9), &clock];
+            self.lived(random, seen, ENQUEUE, &operands);
+        }
     }
     fn selected(&self) -> Option<Token> {
         let selected = self.sending()?.given().selected()?;
@@ -560,22 +592,29 @@ impl Life {
             if self.short > 0 {
                 return;
             }
-            let (octets, words) = match random.below(3) {
+            let lent = match random.below(3) {
                 0 => (LENT_OCTETS, LENT_WORDS),
                 1 => (NEEDED_OCTETS + 1, NEEDED_WORDS),
                 _ => (NEEDED_OCTETS, NEEDED_WORDS),
             };
-            self.step(LEND, &[&pair(octets), &pair(words)]);
+            self.lent(lent);
         } else if random.chance(self.style.short) {
             let octets = random.pick(&[0, 255, NEEDED_OCTETS - 1, NEEDED_OCTETS, LENT_OCTETS]);
             let words = random.pick(&[0, 27, NEEDED_WORDS - 1, NEEDED_WORDS, LENT_WORDS]);
-            self.step(LEND, &[&pair(octets), &pair(words)]);
+            self.lent((octets, words));
             self.short = 1 + random.below(4);
             if random.chance(10) {
                 let over =
                     random.pick(&[(LENT_OCTETS + 1, 0), (0, LENT_WORDS + 1), (65535, 65535)]);
-                self.step(LEND, &[&pair(over.0), &pair(over.1)]);
+                self.lent(over);
             }
+        }
+    }
+    /// The lengths stay if there are not so many.
+    fn lent(&mut self, (octets, words): (usize, usize)) {
+        let answer = self.step(LEND, &[&pair(octets), &pair(words)]);
+        if answer[0] == ANSWERED {
+            self.lent = (octets, words);
         }
     }
 
@@ -823,7 +862,7 @@ impl Life {
                 }
                 let selected = self.selected();
                 let token = self.token(random, selected);
-                let forged = Forged::of(token, selected);
+                let forged = Forged::of(token, selected, &self.prepared);
                 seen.forged(SUBMITTED, forged);
                 self.lived(random, seen, SUBMITTED, &[&token_octets(token), &clock]);
             }
@@ -833,7 +872,7 @@ impl Life {
                     false => Some(random.pick(&self.flying)),
                 };
                 let token = self.token(random, flying);
-                let forged = Forged::of(token, flying);
+                let forged = Forged::of(token, flying, &self.prepared);
                 seen.forged(TRANSMITTED, forged);
                 self.lived(random, seen, TRANSMITTED, &[&token_octets(token), &clock]);
             }
@@ -1040,17 +1079,13 @@ fn pair(value: usize) -> [u8; 2] {
 #[cfg(test)]
 mod tests {
     use super::*;
+    use bts136::harness::script::sender::run_sender;
 
     #[test]
-    fn lives_have_every_number_octet_and_every_kind() {
-        let mut random = Random(1);
-        let (mut tally, mut seen) = (Tally::default(), Seen::default());
-        for _ in 0..1000 {
-            let life = Life::new(&mut random, &mut seen);
-            tally.add_steps(&life.steps, &life.answers);
-        }
-        assert_eq!(tally.missing(&OPERATIONS), Vec::<String>::new());
-        assert_eq!(seen.missing(), Vec::<String>::new());
+    fn lives_have_every_number_octet_every_kind_and_every_end() {
+        let counts = run(1, 1000, Port::DRY).expect("the same twice");
+        let rows = counts.sender_rows();
+        assert_eq!(counter::missing(&rows), Vec::<String>::new());
     }
     #[test]
     fn a_life_is_lived_alike_again() {
@@ -1072,18 +1107,5 @@ mod tests {
         let life = Life::new(&mut random, &mut Seen::default());
         let difference = life.compare(&mut random, other).expect_err("a difference");
         assert!(difference.starts_with("word 3459 of the memory that is left"));
-    }
-    #[test]
-    fn spoiled_scripts_have_every_end() {
-        let mut random = Random(4);
-        let mut tally = Tally::default();
-        for _ in 0..40 {
-            let life = Life::new(&mut random, &mut Seen::default());
-            let (steps, answers) = life
-                .compare_spoiled(&mut random, run_sender)
-                .expect("alike");
-            tally.add(&steps, &answers);
-        }
-        assert_eq!(tally.missing_ends(), Vec::<String>::new());
     }
 }

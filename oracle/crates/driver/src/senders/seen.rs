@@ -1,50 +1,56 @@
 //! What happened in the lives of senders, counted by kind.
+use crate::counter::{Counter, Row};
 use bts136::harness::{
     script::{
         ANSWERED,
         sender::{
-            CAN_ENQUEUE, CANCEL, CANCEL_TRANSACTION, CONTAINS, ENQUEUE, HAS_ECHO,
-            IDENTITY_FOR_ECHO, INTERRUPT, POP_EVENT, PREPARE, PRIORITIZED, RADIO_ACTIVE, READY,
-            REFRESH, SENDER_ADVANCE, SENDER_STATUS, SUBMITTED, SUBMITTED_MESSAGE, TRANSMITTED,
-            operation,
+            CAN_ENQUEUE, CANCEL, CANCEL_ALL, CANCEL_TRANSACTION, CONTAINS, ENQUEUE, HAS_ECHO,
+            IDENTITY_FOR_ECHO, INTERRUPT, PENDING, POP_EVENT, PREPARE, PRIORITIZED, RADIO_ACTIVE,
+            READY, REFRESH, SENDER, SENDER_ADVANCE, SENDER_STATUS, SUBMITTED, SUBMITTED_MESSAGE,
+            TRANSMITTED, operation,
         },
     },
-    sending::{Live, Sending, Token, event_parts},
+    sending::{Live, NEEDED_OCTETS, NEEDED_WORDS, Sending, Token, event_parts},
 };
-use std::collections::BTreeMap;
+use std::ops::AddAssign;
 
 /// Every kind that must be seen, beside the number octets of each operation.
 #[rustfmt::skip]
-const KINDS: [(u8, &[&str]); 19] = [
+const KINDS: [(u8, &[&str]); 22] = [
+    (SENDER,             &["made", "19 zero", "19 over 128"]),
     (CAN_ENQUEUE,        &["no", "yes"]),
-    (ENQUEUE,            &["added", "replaced", "shares an echo", "20 events", "20 transfers", "1 empty", "1 long",
+    (ENQUEUE,            &["added", "replaced", "begins to share an echo", "shares an echo", "20 events", "20 transfers", "1 empty", "1 long",
                            "21 first block", "21 no echo", "23 past", "23 guard", "last of 128", "of 27 frames",
-                           "Pch", "guard over 2^63", "512 left"]),
+                           "search passes 127", "echo held until now", "21 held until after now", "Pch", "guard over 2^63", "512 left"]),
     (SENDER_ADVANCE,     &["with a restart"]),
     (PREPARE,            &["nothing", "frame", "frame polled", "frame of 27", "selected before", "of 65 tokens", "512 left", "511 left"]),
     (HAS_ECHO,           &["no", "yes"]),
     (INTERRUPT,          &["not found", "found", "restarts", "of a shared echo", "first is overdue", "first is not overdue", "without an echo"]),
     (PRIORITIZED,        &["nothing", "frame", "selection dropped", "selection kept", "last frame again"]),
-    (SUBMITTED,          &["overdue", "24 foreign frame", "24 foreign generation", "24 foreign submission", "24 older", "511 left"]),
+    (SUBMITTED,          &["overdue", "24 foreign frame", "24 foreign generation", "24 foreign submission", "24 older", "24 other", "511 left"]),
     (SUBMITTED_MESSAGE,  &["nothing", "completion"]),
-    (TRANSMITTED,        &["not found", "found", "completed", "foreign frame", "foreign generation", "foreign submission", "older", "completed and expired"]),
+    (TRANSMITTED,        &["not found", "found", "completed", "not completed", "foreign frame", "foreign generation", "foreign submission",
+                           "older", "other", "completed and expired"]),
     (SENDER_STATUS,      &["not found", "found", "upper bits set", "echo over 127", "Complete", "queued again", "Begin not sent"]),
     (CANCEL,             &["not found", "found", "selection dropped"]),
     (CANCEL_TRANSACTION, &["not found", "found", "after a restart", "generation only"]),
+    (CANCEL_ALL,         &["nothing", "some"]),
     (REFRESH,            &["queued", "moved", "moved of equal ages", "with a selection", "15 blocks"]),
     (IDENTITY_FOR_ECHO,  &["nothing", "identity"]),
     (RADIO_ACTIVE,       &["no", "yes"]),
     (READY,              &["no", "yes"]),
     (CONTAINS,           &["no", "yes"]),
     (POP_EVENT,          &["nothing", "Complete", "Expired", "Cancelled", "Failed"]),
+    (PENDING,            &["nothing", "some"]),
 ];
 /// Of any call.
-const HAPPENED: [&str; 15] = [
+const HAPPENED: [&str; 21] = [
     "restart",
     "restart at 64 blocks",
     "no restart at 63 blocks",
     "Complete",
     "Expired",
+    "Cancelled",
     "Failed",
     "echo search wraps",
     "capacity 1 full",
@@ -55,15 +61,28 @@ const HAPPENED: [&str; 15] = [
     "time goes back",
     "refused after an accepted clock",
     "two restarts in one call",
+    "16 octets alone",
+    "16 words alone",
+    "16 before 18",
+    "16 before 22",
+    "18 before 22",
 ];
 
 #[derive(Default)]
 pub struct Seen {
     pub calls: u64,
-    kinds: BTreeMap<(u8, &'static str), u64>,
-    happened: BTreeMap<&'static str, u64>,
-    forged: BTreeMap<(u8, Forged), u64>,
+    kinds: Counter<(u8, &'static str)>,
+    happened: Counter<&'static str>,
+    forged: Counter<(u8, Forged)>,
     token: Option<Forged>,
+}
+impl AddAssign for Seen {
+    fn add_assign(&mut self, other: Self) {
+        self.calls += other.calls;
+        self.kinds += other.kinds;
+        self.happened += other.happened;
+        self.forged += other.forged;
+    }
 }
 
 /// How a token that is handed in differs from the one at hand.
@@ -73,22 +92,34 @@ pub enum Forged {
     Frame,
     Generation,
     Submission,
+    /// One that was given out before.
+    Older,
     Other,
 }
+const FORGED: [(Forged, &str); 6] = [
+    (Forged::Own, "own"),
+    (Forged::Frame, "foreign frame"),
+    (Forged::Generation, "foreign generation"),
+    (Forged::Submission, "foreign submission"),
+    (Forged::Older, "older"),
+    (Forged::Other, "other"),
+];
 impl Forged {
-    pub fn of(token: Token, at_hand: Option<Token>) -> Self {
-        let Some(own) = at_hand else {
-            return Self::Other;
-        };
-        match (
-            token.generation == own.generation,
-            token.submission == own.submission,
-            token.frame == own.frame,
-        ) {
-            (true, true, true) => Self::Own,
-            (true, true, false) => Self::Frame,
-            (false, true, true) => Self::Generation,
-            (true, false, true) => Self::Submission,
+    /// Of a token, the one at hand, and those that were given out.
+    pub fn of(token: Token, at_hand: Option<Token>, given_out: &[Token]) -> Self {
+        let same = at_hand.map(|own| {
+            (
+                token.generation == own.generation,
+                token.submission == own.submission,
+                token.frame == own.frame,
+            )
+        });
+        match same {
+            Some((true, true, true)) => Self::Own,
+            _ if given_out.contains(&token) => Self::Older,
+            Some((true, true, false)) => Self::Frame,
+            Some((false, true, true)) => Self::Generation,
+            Some((true, false, true)) => Self::Submission,
             _ => Self::Other,
         }
     }
@@ -96,6 +127,8 @@ impl Forged {
 
 /// What a call meets.
 pub struct Before {
+    /// How many octets and words are lent.
+    lent: (usize, usize),
     next: u64,
     clocks: (u64, u64),
     next_echo: usize,
@@ -105,9 +138,10 @@ pub struct Before {
     shared: u128,
     /// Where the call's kind is told by them.
     live: Vec<Live>,
+    until_ms: Vec<u64>,
 }
 impl Before {
-    pub fn new(sending: Option<&Sending>, op: u8) -> Option<Self> {
+    pub fn new(sending: Option<&Sending>, lent: (usize, usize), op: u8) -> Option<Self> {
         let sending = sending?;
         let given = sending.given();
         let wanted = [
@@ -120,6 +154,7 @@ impl Before {
             SENDER_ADVANCE,
         ];
         Some(Self {
+            lent,
             next: sending.next(),
             clocks: given.clocks(),
             next_echo: given.next_echo(),
@@ -131,7 +166,22 @@ impl Before {
                 true => given.live().collect(),
                 false => Vec::new(),
             },
+            until_ms: match op {
+                ENQUEUE => given.echo_until_ms().to_vec(),
+                _ => Vec::new(),
+            },
         })
+    }
+}
+/// The names of what was met.
+fn each_met(names: &[(&'static str, bool)], add: impl FnMut(&'static str)) {
+    let met = names.iter().filter(|(_, met)| *met);
+    met.map(|(name, _)| *name).for_each(add);
+}
+fn some(count: usize) -> &'static str {
+    match count {
+        0 => "nothing",
+        _ => "some",
     }
 }
 /// The echoes that two transfers hold, bit k for echo k.
@@ -146,9 +196,17 @@ pub fn shared(sending: &Sending) -> u128 {
 }
 
 impl Seen {
+    /// A constructor's call, and its number octet.
+    pub fn made(&mut self, capacity: u64, number: u8) {
+        match (number, capacity) {
+            (ANSWERED, _) => self.kinds.add((SENDER, "made")),
+            (_, 0) => self.kinds.add((SENDER, "19 zero")),
+            _ => self.kinds.add((SENDER, "19 over 128")),
+        }
+    }
     /// Of the token of the next call.
     pub fn forged(&mut self, op: u8, forged: Forged) {
-        *self.forged.entry((op, forged)).or_default() += 1;
+        self.forged.add((op, forged));
         self.token = Some(forged);
     }
     pub fn add(
@@ -172,52 +230,25 @@ impl Seen {
             after,
             token,
         };
-        call.kinds(|kind| *self.kinds.entry((op, kind)).or_default() += 1);
-        call.happened(|what| *self.happened.entry(what).or_default() += 1);
+        call.kinds(|kind| self.kinds.add((op, kind)));
+        call.happened(|what| self.happened.add(what));
     }
-    pub fn print(&self) {
-        for (op, names) in KINDS {
-            print!("{:22}", operation(op).expect("of the table").name);
-            for name in names {
-                print!("  {name}: {}", self.kinds.get(&(op, *name)).unwrap_or(&0));
-            }
-            println!();
-        }
-        print!("{:22}", "happened");
-        for name in HAPPENED {
-            print!("  {name}: {}", self.happened.get(name).unwrap_or(&0));
-        }
-        println!();
-        for (op, name) in [
+    pub fn rows(&self) -> Vec<Row> {
+        let kinds = KINDS.iter().flat_map(|(op, names)| {
+            let operation = operation(*op).expect("of the table").name;
+            let names = names.iter();
+            names.map(move |name| Row::new(operation, name, self.kinds.of(&(*op, name))))
+        });
+        let happened = HAPPENED.iter();
+        let happened = happened.map(|name| Row::new("any call", name, self.happened.of(name)));
+        let tokens = [
             (SUBMITTED, "tokens submitted"),
             (TRANSMITTED, "tokens transmitted"),
-        ] {
-            let of = |forged| self.forged.get(&(op, forged)).unwrap_or(&0);
-            println!(
-                "{name:22}  own: {}  foreign frame: {}  foreign generation: {}  foreign submission: {}  other: {}",
-                of(Forged::Own),
-                of(Forged::Frame),
-                of(Forged::Generation),
-                of(Forged::Submission),
-                of(Forged::Other)
-            );
-        }
-    }
-    pub fn missing(&self) -> Vec<String> {
-        let mut missing = Vec::new();
-        for (op, names) in KINDS {
-            for name in names {
-                if !self.kinds.contains_key(&(op, *name)) {
-                    let operation = operation(op).expect("of the table").name;
-                    missing.push(format!("{operation} {name}"));
-                }
-            }
-        }
-        let happened = HAPPENED
-            .iter()
-            .filter(|name| !self.happened.contains_key(*name));
-        missing.extend(happened.map(|name| (*name).to_owned()));
-        missing
+        ];
+        let forged = tokens.into_iter().flat_map(|(op, group)| {
+            FORGED.map(|(forged, name)| Row::new(group, name, self.forged.of(&(op, forged))))
+        });
+        kinds.chain(happened).chain(forged).collect()
     }
 }
 
@@ -299,9 +330,15 @@ impl Told<'_> {
             match kind {
                 0 => add("Complete"),
                 1 => add("Expired"),
-                3 => add("Failed"),
-                _ => {}
+                2 => add("Cancelled"),
+                _ => add("Failed"),
             }
+        }
+        let (octets, words) = self.before.lent;
+        match (self.answer[0], octets < NEEDED_OCTETS, words < NEEDED_WORDS) {
+            (16, true, false) => add("16 octets alone"),
+            (16, false, true) => add("16 words alone"),
+            _ => {}
         }
         if given.next_echo() < self.before.next_echo {
             add("echo search wraps");
@@ -320,36 +357,53 @@ impl Told<'_> {
             add("256 events");
         }
         if self.has_clock() {
-            let (block, now) = self.clock();
-            let (last_block, last_ms) = self.before.clocks;
-            if self.answer[0] == 22 && block < last_block {
-                add("block goes back");
-            }
-            if self.answer[0] == 22 && now < last_ms {
-                add("time goes back");
-            }
-            if self.answer[0] != ANSWERED && given.clocks() != self.before.clocks {
-                add("refused after an accepted clock");
-            }
-            if self.op == SENDER_ADVANCE && self.answer[0] == ANSWERED {
-                let waits = |live: &&Live, blocks: u64| {
-                    let passed = |since: Option<u64>| since.is_some_and(|b| b + blocks == block);
-                    passed(live.last_progress) || passed(live.waiting_since)
-                };
-                let kept = |generation| given.live().any(|live| live.generation == generation);
-                let live = || {
-                    self.before
-                        .live
-                        .iter()
-                        .filter(|live| live.deadline_ms > now)
-                };
-                if live().any(|live| waits(&live, 64) && !kept(live.generation)) {
-                    add("restart at 64 blocks");
-                }
-                if live().any(|live| waits(&live, 63) && kept(live.generation)) {
-                    add("no restart at 63 blocks");
-                }
-            }
+            self.clocks(&mut add);
+        }
+    }
+    fn clocks(&self, add: &mut impl FnMut(&'static str)) {
+        let given = self.after.given();
+        let (block, now) = self.clock();
+        let (last_block, last_ms) = self.before.clocks;
+        let (block_back, time_back) = (block < last_block, now < last_ms);
+        let back = block_back || time_back;
+        let few = self.left() < 512 && self.op != SUBMITTED;
+        let number = self.answer[0];
+        each_met(
+            &[
+                ("block goes back", number == 22 && block_back),
+                ("time goes back", number == 22 && time_back),
+                (
+                    "refused after an accepted clock",
+                    number != ANSWERED && given.clocks() != self.before.clocks,
+                ),
+                ("16 before 18", number == 16 && few),
+                ("16 before 22", number == 16 && back),
+                ("18 before 22", number == 18 && back),
+            ],
+            &mut *add,
+        );
+        if self.op == SENDER_ADVANCE && self.answer[0] == ANSWERED {
+            self.waits(block, now, add);
+        }
+    }
+    /// Of the transfers that are not overdue: restarted at 64 blocks since progress or waiting, and not at 63.
+    fn waits(&self, block: u64, now: u64, add: &mut impl FnMut(&'static str)) {
+        let given = self.after.given();
+        let waits = |live: &Live, blocks: u64| {
+            let passed = |since: Option<u64>| since.is_some_and(|since| block - since == blocks);
+            passed(live.last_progress) || passed(live.waiting_since)
+        };
+        let kept = |live: &Live| {
+            let mut after = given.live();
+            after.any(|after| after.generation == live.generation)
+        };
+        let live = self.before.live.iter();
+        let live = live.filter(|live| live.deadline_ms > now);
+        if live.clone().any(|live| waits(live, 64) && !kept(live)) {
+            add("restart at 64 blocks");
+        }
+        if live.clone().any(|live| waits(live, 63) && kept(live)) {
+            add("no restart at 63 blocks");
         }
     }
 
@@ -364,44 +418,12 @@ impl Told<'_> {
             (PREPARE, _) => self.prepared(add),
             (INTERRUPT, _) => self.interrupted(add),
             (PRIORITIZED, _) => self.prioritized(add),
-            (SUBMITTED, [number]) => {
-                if *number == ANSWERED {
-                    let (_, now) = self.clock();
-                    let generation = self.word(0);
-                    let mut live = self.before.live.iter();
-                    if live.any(|tx| tx.generation == generation && tx.deadline_ms <= now) {
-                        add("overdue");
-                    }
-                    if self.left() < 512 {
-                        add("511 left");
-                    }
-                }
-                match (number, self.token) {
-                    (24, Some(Forged::Frame)) => add("24 foreign frame"),
-                    (24, Some(Forged::Generation)) => add("24 foreign generation"),
-                    (24, Some(Forged::Submission)) => add("24 foreign submission"),
-                    (24, Some(Forged::Other)) => add("24 older"),
-                    _ => {}
-                }
-            }
+            (SUBMITTED, [number]) => self.submitted(*number, add),
             (SUBMITTED_MESSAGE, [ANSWERED, held, ..]) => {
                 add(["nothing", "completion"][usize::from(*held)]);
             }
             (TRANSMITTED, [ANSWERED, found, completed]) => {
-                add(["not found", "found"][usize::from(*found)]);
-                if *completed == 1 {
-                    add("completed");
-                    if self.added().any(|kind| kind == 1) {
-                        add("completed and expired");
-                    }
-                }
-                match (found, self.token) {
-                    (0, Some(Forged::Frame)) => add("foreign frame"),
-                    (0, Some(Forged::Generation)) => add("foreign generation"),
-                    (0, Some(Forged::Submission)) => add("foreign submission"),
-                    (0, Some(Forged::Other)) => add("older"),
-                    _ => {}
-                }
+                self.transmitted(*found, *completed, add);
             }
             (SENDER_STATUS, _) => self.status(add),
             (CANCEL, [ANSWERED, found]) => {
@@ -410,18 +432,9 @@ impl Told<'_> {
                     add("selection dropped");
                 }
             }
-            (CANCEL_TRANSACTION, [ANSWERED, found]) => {
-                add(["not found", "found"][usize::from(*found)]);
-                let number = self.word(0);
-                let mut live = self.before.live.iter();
-                if live.any(|tx| tx.owner == number && tx.generation != number) {
-                    add("after a restart");
-                }
-                let mut live = self.before.live.iter();
-                if *found == 0 && live.any(|tx| tx.generation == number) {
-                    add("generation only");
-                }
-            }
+            (CANCEL_ALL, [ANSWERED]) => add(some(self.before.pending)),
+            (PENDING, [ANSWERED, count]) => add(some(usize::from(*count))),
+            (CANCEL_TRANSACTION, [ANSWERED, found]) => self.cancelled(*found, add),
             (REFRESH, [ANSWERED]) => self.refreshed(add),
             (IDENTITY_FOR_ECHO, [ANSWERED, held, ..]) => {
                 add(["nothing", "identity"][usize::from(*held)]);
@@ -441,38 +454,102 @@ impl Told<'_> {
         let length = u16::from_be_bytes([self.operands[26], self.operands[27]]);
         let (block, now) = self.clock();
         match self.answer[0] {
-            ANSWERED => {
-                add(match given.pending() > self.before.pending {
-                    true => "added",
-                    false => "replaced",
-                });
-                if shared(self.after) != 0 {
-                    add("shares an echo");
-                }
-                if given.pending() == 128 && self.before.pending == 127 {
-                    add("last of 128");
-                }
-                let last = given.live_at(given.pending() - 1).expect("it was added");
-                if last.frames == 27 {
-                    add("of 27 frames");
-                }
-                if given.guard_ms() > 1 << 63 {
-                    add("guard over 2^63");
-                }
-                if self.left() == 512 {
-                    add("512 left");
-                }
-            }
+            ANSWERED => self.enlisted(now, add),
             1 if length == 0 => add("1 empty"),
             1 => add("1 long"),
             3 => add("Pch"),
             20 if self.before.events >= given.capacity() => add("20 events"),
             20 => add("20 transfers"),
             21 if block < given.first_block() => add("21 first block"),
-            21 => add("21 no echo"),
+            21 => {
+                add("21 no echo");
+                if self.before.until_ms.iter().min() == now.checked_add(1).as_ref() {
+                    add("21 held until after now");
+                }
+            }
             23 if self.word(18) <= now => add("23 past"),
             23 => add("23 guard"),
             _ => {}
+        }
+    }
+    fn enlisted(&self, now: u64, mut add: impl FnMut(&'static str)) {
+        let given = self.after.given();
+        add(match given.pending() > self.before.pending {
+            true => "added",
+            false => "replaced",
+        });
+        let last = given.live_at(given.pending() - 1).expect("it was added");
+        let echo = usize::from(last.echo);
+        let shared = shared(self.after);
+        each_met(
+            &[
+                ("shares an echo", shared != 0),
+                ("begins to share an echo", shared & !self.before.shared != 0),
+                ("search passes 127", echo < self.before.next_echo),
+                (
+                    "echo held until now",
+                    now > 0 && self.before.until_ms[echo] == now,
+                ),
+                (
+                    "last of 128",
+                    given.pending() == 128 && self.before.pending == 127,
+                ),
+                ("of 27 frames", last.frames == 27),
+                ("guard over 2^63", given.guard_ms() > 1 << 63),
+                ("512 left", self.left() == 512),
+            ],
+            add,
+        );
+    }
+    fn submitted(&self, number: u8, mut add: impl FnMut(&'static str)) {
+        let ((_, now), generation) = (self.clock(), self.word(0));
+        let mut live = self.before.live.iter();
+        if number == ANSWERED {
+            if live.any(|tx| tx.generation == generation && tx.deadline_ms <= now) {
+                add("overdue");
+            }
+            if self.left() < 512 {
+                add("511 left");
+            }
+        }
+        match (number, self.token) {
+            (24, Some(Forged::Frame)) => add("24 foreign frame"),
+            (24, Some(Forged::Generation)) => add("24 foreign generation"),
+            (24, Some(Forged::Submission)) => add("24 foreign submission"),
+            (24, Some(Forged::Older)) => add("24 older"),
+            (24, Some(Forged::Other)) => add("24 other"),
+            _ => {}
+        }
+    }
+    fn transmitted(&self, found: u8, completed: u8, mut add: impl FnMut(&'static str)) {
+        add(["not found", "found"][usize::from(found)]);
+        match (found, completed) {
+            (1, 0) => add("not completed"),
+            (_, 1) => add("completed"),
+            _ => {}
+        }
+        if completed == 1 && self.added().any(|kind| kind == 1) {
+            add("completed and expired");
+        }
+        match (found, self.token) {
+            (0, Some(Forged::Frame)) => add("foreign frame"),
+            (0, Some(Forged::Generation)) => add("foreign generation"),
+            (0, Some(Forged::Submission)) => add("foreign submission"),
+            (0, Some(Forged::Older)) => add("older"),
+            (0, Some(Forged::Other)) => add("other"),
+            _ => {}
+        }
+    }
+    fn cancelled(&self, found: u8, mut add: impl FnMut(&'static str)) {
+        add(["not found", "found"][usize::from(found)]);
+        let number = self.word(0);
+        let mut live = self.before.live.iter();
+        if live.any(|tx| tx.owner == number && tx.generation != number) {
+            add("after a restart");
+        }
+        let mut live = self.before.live.iter();
+        if found == 0 && live.any(|tx| tx.generation == number) {
+            add("generation only");
         }
     }
     fn prepared(&self, mut add: impl FnMut(&'static str)) {
