@@ -142,6 +142,11 @@ impl Part {
 mod tests {
     use super::*;
 
+    #[test]
+    fn what_was_never_met_is_an_error() {
+        let never = All::default().covered(1).expect_err("nothing was met");
+        assert!(never.starts_with("never met: refused 1 Length, "));
+    }
     /// A published sequence of SplitMix64 has the first seed.
     #[test]
     fn a_difference_ends_the_first_run() {

@@ -3,7 +3,7 @@
 //! refusals. What must be met is document 01's, not what a run met.
 use crate::{
     counter::{Counter, Row},
-    timer::{Timer, Wait},
+    timer::{State, Timer},
 };
 use bts136::harness::{
     script::{
@@ -316,12 +316,12 @@ impl Told<'_> {
             return;
         };
         let blocks = self.word(0) - before.since;
-        match (before.wait, before.pending, blocks, event) {
-            (Wait::Waiting, false, 31, 0) => add("None at 31 blocks"),
-            (Wait::Waiting, false, 32, 1) => add("status at 32 blocks"),
-            (Wait::Waiting, true, 32.., 0) => add("None while a status is pending"),
-            (Wait::FinalWait, _, 31, 0) => add("None at 31 of the final wait"),
-            (Wait::FinalWait, _, 32, 2) => add("end at 32 of the final wait"),
+        match (before.state, before.pending, blocks, event) {
+            (State::Waiting, false, 31, 0) => add("None at 31 blocks"),
+            (State::Waiting, false, 32, 1) => add("status at 32 blocks"),
+            (State::Waiting, true, 32.., 0) => add("None while a status is pending"),
+            (State::FinalWait, _, 31, 0) => add("None at 31 of the final wait"),
+            (State::FinalWait, _, 32, 2) => add("end at 32 of the final wait"),
             _ => {}
         }
     }

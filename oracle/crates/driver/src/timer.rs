@@ -2,7 +2,7 @@
 use bts136::harness::script::ANSWERED;
 
 #[derive(Clone, Copy, Default, PartialEq, Eq)]
-pub enum Wait {
+pub enum State {
     #[default]
     Idle,
     Waiting,
@@ -11,7 +11,7 @@ pub enum Wait {
 }
 #[derive(Default)]
 pub struct Timer {
-    pub wait: Wait,
+    pub state: State,
     pub since: u64,
     pub last_block: u64,
     pub pending: bool,
@@ -20,22 +20,22 @@ pub struct Timer {
 }
 impl Timer {
     /// Of an answer; `None` if there is no timer.
-    pub fn of(state: &[u8]) -> Option<Self> {
-        if state[0] != ANSWERED {
+    pub fn of(answer: &[u8]) -> Option<Self> {
+        if answer[0] != ANSWERED {
             return None;
         }
-        let word = |at: usize| u64::from_be_bytes(*state[at..].first_chunk().expect("a timer"));
-        let waits = [
-            Wait::Idle,
-            Wait::Waiting,
-            Wait::SendingUnsolicited,
-            Wait::FinalWait,
+        let word = |at: usize| u64::from_be_bytes(*answer[at..].first_chunk().expect("a timer"));
+        let states = [
+            State::Idle,
+            State::Waiting,
+            State::SendingUnsolicited,
+            State::FinalWait,
         ];
         Some(Self {
-            wait: waits[usize::from(state[1])],
+            state: states[usize::from(answer[1])],
             since: word(2),
             last_block: word(10),
-            pending: state[18] == 1,
+            pending: answer[18] == 1,
             token: word(19),
             next: word(27),
         })
