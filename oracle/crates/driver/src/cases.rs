@@ -14,7 +14,7 @@ use bts136::harness::{
     },
     wire::{self, FRAME_OCTETS},
 };
-use std::ops::AddAssign;
+use std::ops::{AddAssign, Range};
 
 type Names = &'static [&'static str];
 
@@ -27,11 +27,12 @@ const CASES: [(u8, &[Names]); 23] = [
     (ACCEPT,            &[IDENTITY, &["2 type"]]),
     (HEADER_A,          &[USAGES]),
     (ADDRESS,           &[TYPES]),
-    (ENCODE,            &[KINDS, &["3 of a Begin", "3 of a Continue", "11 of a Begin", "11 of a Continue"]]),
-    (DECODE,            &[KINDS, DECODED]),
+    (ENCODE,            &[KINDS, &["3 of a Begin", "3 of a Continue", "11 of a Begin", "11 of a Continue",
+                          "Continue of a type over 3"]]),
+    (DECODE,            &[KINDS, &["Continue with the skipped bit"], DECODED]),
     (COUNT,             &[&["1 frame", "27 frames"]]),
     (FRAME,             &[KINDS]),
-    (PUSH,              &[RECEPTIONS, &["Ignored Begin", "Ignored Continue", "empty message", "message of 255 octets"],
+    (PUSH,              &[RECEPTIONS, MESSAGES, &["empty message", "message of 255 octets", "Ignored Begin", "Ignored Continue"],
                           DECODED, PUSHED]),
     (STATUS,            &[HELD]),
     (COMPLETE,          &[NO_YES]),
@@ -43,7 +44,7 @@ const CASES: [(u8, &[Names]); 23] = [
     (TIMER_SOLICITED,   &[&["None", "Terminate"], FOREIGN, LEFT, LATE]),
     (PROCEDURE_RESET,   &[LEFT]),
     (PROCEDURE_ACTIVE,  &[NO_YES]),
-    (RECEIVE,           &[RECEPTIONS, IGNORED, DECODED, PUSHED, LEFT, TAKEN, LATE,
+    (RECEIVE,           &[RECEPTIONS, MESSAGES, &["Begin over filled slots"], IGNORED, DECODED, PUSHED, LEFT, TAKEN, LATE,
                           &["18 before 16", "16 before 17", "refused after an accepted clock"]]),
     (ADVANCE,           &[TIMER_EVENTS, WAITS, LEFT, TAKEN, LATE]),
     (SENT,              &[SEND_EVENTS, FOREIGN, LEFT, LATE]),
@@ -60,8 +61,9 @@ const SEND_EVENTS: Names = &["Ignored", "Pending", "Complete", "Failed"];
 #[rustfmt::skip]
 const RECEPTIONS: Names = &["Ignored", "accepted", "message", "status", "message and status"];
 #[rustfmt::skip]
-const DECODED: Names = &["3 usage", "6 fourth flag", "3 Pch", "4 kind", "4 bit after the type",
+const DECODED: Names = &["3 usage", "6 fourth flag", "6 fourth flag of a Pch", "3 Pch", "4 kind", "4 bit after the type",
     "6 reserved of a Begin", "6 reserved of a Continue"];
+const MESSAGES: Names = &["message by a Begin", "message by a Continue"];
 /// Where a push has further reasons, decode's own among them.
 #[rustfmt::skip]
 const PUSHED: Names = &["7 filler of a Begin", "12 over 25", "12 not needed", "7 past the message"];
@@ -139,9 +141,12 @@ struct Told<'a> {
     before: Option<&'a [u8]>,
     after: Option<&'a [u8]>,
 }
-/// The places of PROCEDURE_STATE's answer that tell whether a transaction is held, and its echo.
+/// The place of a frame's operand that has a Continue's type.
+const CONTINUE_TYPE: usize = 24;
+/// The places of PROCEDURE_STATE's answer that tell whether a transaction is held, its echo and its map.
 const STATE_HELD: usize = 35;
 const STATE_ECHO: usize = 36;
+const STATE_MAP: Range<usize> = 37..41;
 /// The same of a push's answer: a message, its length, and a status.
 const MESSAGE_GIVEN: usize = 2;
 const MESSAGE_LENGTH: usize = 14;
@@ -162,7 +167,13 @@ impl Told<'_> {
                 _ => "Pch",
             }),
             (ENCODE, _) => self.encoded(&mut add),
-            (DECODE | FRAME, [ANSWERED, kind, ..]) => add(named(KINDS, kind)),
+            (FRAME, [ANSWERED, kind, ..]) => add(named(KINDS, kind)),
+            (DECODE, [ANSWERED, kind, ..]) => {
+                add(named(KINDS, kind));
+                if *kind == 1 && self.field(12, 1) == 1 {
+                    add("Continue with the skipped bit");
+                }
+            }
             (COUNT, [ANSWERED, 1]) => add("1 frame"),
             (COUNT, [ANSWERED, 27]) => add("27 frames"),
             (DECODE, [number]) => self.refused(*number, &mut add),
@@ -194,7 +205,12 @@ impl Told<'_> {
     fn encoded(&self, add: &mut impl FnMut(&'static str)) {
         let kind = self.operands[0];
         match (self.answer[0], kind) {
-            (ANSWERED, _) => add(KINDS[usize::from(kind)]),
+            (ANSWERED, _) => {
+                add(KINDS[usize::from(kind)]);
+                if kind == 1 && self.operands[CONTINUE_TYPE] > 3 {
+                    add("Continue of a type over 3");
+                }
+            }
             (3, 0) => add("3 of a Begin"),
             (3, _) => add("3 of a Continue"),
             (11, 0) => add("11 of a Begin"),
@@ -226,7 +242,12 @@ impl Told<'_> {
             3 => add("3 usage"),
             4 if self.begins() => add("4 bit after the type"),
             4 => add("4 kind"),
-            6 if self.field(6, 1) == 1 => add("6 fourth flag"),
+            6 if self.field(6, 1) == 1 => {
+                add("6 fourth flag");
+                if self.field(0, 3) == 7 {
+                    add("6 fourth flag of a Pch");
+                }
+            }
             6 if self.begins() => add("6 reserved of a Begin"),
             6 => add("6 reserved of a Continue"),
             7 if self.begins() => add("7 filler of a Begin"),
@@ -243,26 +264,44 @@ impl Told<'_> {
         let message = self.answer[MESSAGE_GIVEN];
         let case = accepted + message + 2 * self.answer[STATUS_GIVEN];
         add(RECEPTIONS[usize::from(case)]);
-        match (message, self.answer[MESSAGE_LENGTH]) {
-            (1, 0) => add("empty message"),
-            (1, 255) => add("message of 255 octets"),
-            _ => {}
+        if message == 1 {
+            self.delivered(add);
         }
         if accepted == 0 {
             add(self.ignored());
+        } else if self.begins()
+            && self
+                .procedure()
+                .is_some_and(|state| state[STATE_MAP] != [0; 4])
+        {
+            add("Begin over filled slots");
         }
+    }
+    fn delivered(&self, add: &mut impl FnMut(&'static str)) {
+        add(match self.begins() {
+            true => "message by a Begin",
+            false => "message by a Continue",
+        });
+        match self.answer[MESSAGE_LENGTH] {
+            0 => add("empty message"),
+            255 => add("message of 255 octets"),
+            _ => {}
+        }
+    }
+    /// The procedure before, if it is shown and there is one.
+    fn procedure(&self) -> Option<&[u8]> {
+        let shown = self.before.filter(|_| self.op == RECEIVE);
+        shown.filter(|state| state[0] == ANSWERED)
     }
     fn ignored(&self) -> &'static str {
         if self.begins() {
             return "Ignored Begin";
         }
-        match self.before {
-            Some(state) if self.op == RECEIVE && state[0] == ANSWERED => match state[STATE_HELD] {
-                0 => "Ignored without a transaction",
-                _ if state[STATE_ECHO] != self.field(14, 7) => "Ignored of another echo",
-                _ => "Ignored of another channel or type",
-            },
-            _ => "Ignored Continue",
+        match self.procedure() {
+            None => "Ignored Continue",
+            Some(state) if state[STATE_HELD] == 0 => "Ignored without a transaction",
+            Some(state) if state[STATE_ECHO] != self.field(14, 7) => "Ignored of another echo",
+            Some(_) => "Ignored of another channel or type",
         }
     }
 

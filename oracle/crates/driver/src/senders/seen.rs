@@ -21,7 +21,8 @@ const KINDS: [(u8, &[&str]); 22] = [
     (CAN_ENQUEUE,        &["no", "yes"]),
     (ENQUEUE,            &["added", "replaced", "begins to share an echo", "shares an echo", "20 events", "20 transfers", "1 empty", "1 long",
                            "21 first block", "21 no echo", "23 past", "23 guard", "last of 128", "of 27 frames",
-                           "search passes 127", "echo held until now", "21 held until after now", "Pch", "guard over 2^63", "512 left"]),
+                           "search passes 127", "echo held until now", "21 held until after now",
+                           "at the first block", "23 at now", "deadline after now by 1", "deadline plus guard of 2^64 - 1", "Pch", "guard over 2^63", "512 left"]),
     (SENDER_ADVANCE,     &["with a restart"]),
     (PREPARE,            &["nothing", "frame", "frame polled", "frame of 27", "selected before", "of 65 tokens", "512 left", "511 left"]),
     (HAS_ECHO,           &["no", "yes"]),
@@ -35,7 +36,7 @@ const KINDS: [(u8, &[&str]); 22] = [
     (CANCEL,             &["not found", "found", "selection dropped"]),
     (CANCEL_TRANSACTION, &["not found", "found", "after a restart", "generation only"]),
     (CANCEL_ALL,         &["nothing", "some"]),
-    (REFRESH,            &["queued", "moved", "moved of equal ages", "with a selection", "15 blocks"]),
+    (REFRESH,            &["queued", "queued at 16 blocks", "moved", "moved of equal ages", "with a selection", "15 blocks"]),
     (IDENTITY_FOR_ECHO,  &["nothing", "identity"]),
     (RADIO_ACTIVE,       &["no", "yes"]),
     (READY,              &["no", "yes"]),
@@ -454,7 +455,7 @@ impl Told<'_> {
         let length = u16::from_be_bytes([self.operands[26], self.operands[27]]);
         let (block, now) = self.clock();
         match self.answer[0] {
-            ANSWERED => self.enlisted(now, add),
+            ANSWERED => self.enlisted(block, now, add),
             1 if length == 0 => add("1 empty"),
             1 => add("1 long"),
             3 => add("Pch"),
@@ -467,13 +468,15 @@ impl Told<'_> {
                     add("21 held until after now");
                 }
             }
-            23 if self.word(18) <= now => add("23 past"),
+            23 if self.word(18) == now => add("23 at now"),
+            23 if self.word(18) < now => add("23 past"),
             23 => add("23 guard"),
             _ => {}
         }
     }
-    fn enlisted(&self, now: u64, mut add: impl FnMut(&'static str)) {
+    fn enlisted(&self, block: u64, now: u64, mut add: impl FnMut(&'static str)) {
         let given = self.after.given();
+        let (first_block, deadline) = (given.first_block(), self.word(18));
         add(match given.pending() > self.before.pending {
             true => "added",
             false => "replaced",
@@ -493,6 +496,12 @@ impl Told<'_> {
                 (
                     "last of 128",
                     given.pending() == 128 && self.before.pending == 127,
+                ),
+                ("at the first block", block > 0 && block == first_block),
+                ("deadline after now by 1", deadline - now == 1),
+                (
+                    "deadline plus guard of 2^64 - 1",
+                    deadline + given.guard_ms() == u64::MAX,
                 ),
                 ("of 27 frames", last.frames == 27),
                 ("guard over 2^63", given.guard_ms() > 1 << 63),
@@ -664,13 +673,16 @@ impl Told<'_> {
             let mut live = self.before.live.iter();
             live.find(move |tx| tx.generation == generation)
         };
-        if given
-            .live()
-            .any(|tx| tx.queue != 0 && before(tx.generation).is_some_and(|tx| tx.queue == 0))
-        {
+        let age = |tx: &Live| tx.last_frame.map(|last| block - last);
+        let filled = given.live().filter(|tx| tx.queue != 0);
+        let idle = filled.filter_map(|tx| before(tx.generation).filter(|tx| tx.queue == 0));
+        let idle: Vec<&Live> = idle.collect();
+        if !idle.is_empty() {
             add("queued");
         }
-        let age = |tx: &Live| tx.last_frame.map(|last| block - last);
+        if idle.iter().any(|tx| age(tx) == Some(16)) {
+            add("queued at 16 blocks");
+        }
         if given
             .live()
             .any(|tx| tx.queue == 0 && tx.in_flight == 0 && age(&tx) == Some(15))
