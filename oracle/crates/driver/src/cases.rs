@@ -8,9 +8,9 @@ use crate::{
 use bts136::harness::{
     script::{
         ACCEPT, ADDRESS, ADVANCE, ANSWERED, CHECK, COMPLETE, COUNT, DECODE, ENCODE, EQUAL, FRAME,
-        HEADER_A, LEAST_ROOM, PARTS, PROCEDURE, PROCEDURE_ACTIVE, PROCEDURE_RESET, PROCEDURE_STATE,
-        PUSH, RECEIVE, SENT, STATUS, Step, TIMER_ADVANCE, TIMER_OWNS, TIMER_RESET, TIMER_SOLICITED,
-        TIMER_STATE, TIMER_UNSOLICITED, operation,
+        HEADER_A, LEAST_ROOM, PARTS, PROCEDURE_ACTIVE, PROCEDURE_RESET, PROCEDURE_STATE, PUSH,
+        RECEIVE, SENT, STATUS, Step, TIMER_ADVANCE, TIMER_OWNS, TIMER_RESET, TIMER_SOLICITED,
+        TIMER_STATE, TIMER_TOKEN, TIMER_UNSOLICITED, operation,
     },
     wire::{self, FRAME_OCTETS},
 };
@@ -94,7 +94,8 @@ impl Cases {
         // What the neighbour of a step shows of the state.
         let state = |op: u8, neighbour: Option<usize>| {
             let step = steps.get(neighbour?)?;
-            (step.operation.op == state_of(op)).then(|| &answers[step.answer.clone()])
+            let shows = state_of(op) == Some(step.operation.op);
+            shows.then(|| &answers[step.answer.clone()])
         };
         for (index, step) in steps.iter().enumerate() {
             let op = step.operation.op;
@@ -125,11 +126,12 @@ impl Cases {
         rows.collect()
     }
 }
-/// The operation that shows what this one changes.
-fn state_of(op: u8) -> u8 {
+/// The operation that shows what this one changes, a timer or a procedure that there is.
+fn state_of(op: u8) -> Option<u8> {
     match op {
-        PROCEDURE.. => PROCEDURE_STATE,
-        _ => TIMER_STATE,
+        PROCEDURE_RESET.. => Some(PROCEDURE_STATE),
+        TIMER_TOKEN..=TIMER_STATE => Some(TIMER_STATE),
+        _ => None,
     }
 }
 
