@@ -258,7 +258,7 @@ one-frame =
     ∷ (prepare 21 200, nothing)
     ∷ []
 
--- three frames; a status after two of them is kept until nothing is in flight, and then queues frame 2 again
+-- three frames; a status after two of them is kept until nothing is in flight, and then queues frame 2 again; a frame is confirmed once
 three-frames : List (Call × Line)
 three-frames =
     (enqueue (Tmsi20 1) Smsch (replicate 17 65) 1 5000 10 100, owner 100)
@@ -277,6 +277,8 @@ three-frames =
     ∷ (word 2, number 103)
     ∷ (word 3, number 0)
     ∷ (transmitted 100 101 0 14 100, confirmed false)
+    ∷ (transmitted 100 101 0 14 100, unknown)
+    ∷ (submittedMessage 100 101 0, number 1)
     ∷ (transmitted 100 102 1 14 100, confirmed false)
     ∷ (transmitted 100 103 2 15 100, confirmed true)
     ∷ (queue 0, numbers (2 ∷ []))
@@ -298,8 +300,8 @@ restarts =
     ∷ (state, whole ((1 ∷ 0 ∷ 17 ∷ 3 ∷ 100 ∷ 0 ∷ 100 ∷ 6 ∷ 1 ∷ 0 ∷ 0 ∷ 0 ∷ 11 ∷ 11 ∷ 0 ∷ 5000 ∷ []) ∷ []) [] [] (1 ∷ 73 ∷ 100 ∷ 102 ∷ []))
     ∷ (advance 74 100, done)
     ∷ (state, whole ((1 ∷ 0 ∷ 17 ∷ 3 ∷ 100 ∷ 1 ∷ 102 ∷ 7 ∷ 0 ∷ 0 ∷ 0 ∷ 0 ∷ 0 ∷ 0 ∷ 0 ∷ 5000 ∷ []) ∷ []) [] [] (2 ∷ 74 ∷ 100 ∷ 103 ∷ []))
-    ∷ (held 0, number 5000)
-    ∷ (held 1, number 5000)
+    ∷ (held 0, number 6000)
+    ∷ (held 1, number 6000)
     ∷ (transmitted 100 101 0 74 100, unknown)
     ∷ (status 0 0 74 100, answer false)
     ∷ (status 1 0 74 100, answer false)
@@ -469,7 +471,7 @@ prioritized =
     ∷ (state, whole ((1 ∷ 0 ∷ 1 ∷ 1 ∷ 100 ∷ 0 ∷ 100 ∷ 1 ∷ 0 ∷ 1 ∷ 0 ∷ 0 ∷ 11 ∷ 11 ∷ 12 ∷ 5000 ∷ []) ∷ (2 ∷ 1 ∷ 1 ∷ 1 ∷ 101 ∷ 1 ∷ 101 ∷ 1 ∷ 0 ∷ 0 ∷ 0 ∷ 0 ∷ 0 ∷ 0 ∷ 0 ∷ 5000 ∷ []) ∷ (3 ∷ 2 ∷ 1 ∷ 1 ∷ 102 ∷ 2 ∷ 102 ∷ 1 ∷ 0 ∷ 0 ∷ 0 ∷ 0 ∷ 0 ∷ 0 ∷ 0 ∷ 5000 ∷ []) ∷ []) [] (100 ∷ 106 ∷ 0 ∷ 0 ∷ []) (3 ∷ 11 ∷ 100 ∷ 107 ∷ []))
     ∷ []
 
--- an interrupted transfer restarts; the frame that was selected is dropped
+-- an interrupted transfer restarts; the frame that was selected is dropped, and again where all are cancelled
 interrupted : List (Call × Line)
 interrupted =
     (enqueue (Tmsi20 1) Arch (65 ∷ []) 1 5000 10 100, owner 100)
@@ -483,6 +485,9 @@ interrupted =
     ∷ (cancel (Tmsi20 2), answer true)
     ∷ (enqueue (Tmsi20 3) Arch (67 ∷ []) 3 5000 10 100, owner 105)
     ∷ (prepare 10 100, frame 103 104 0 2 (0x61 ∷ 0x40 ∷ 0x00 ∷ 0x00 ∷ 0x20 ∷ 0x88 ∷ 0x05 ∷ 0x04 ∷ replicate 6 0))
+    ∷ (cancelAll, done)
+    ∷ (prepare 10 100, nothing)
+    ∷ (state, whole [] (2 ∷ 2 ∷ 2 ∷ 1 ∷ 2 ∷ 3 ∷ []) [] (4 ∷ 10 ∷ 100 ∷ 106 ∷ []))
     ∷ []
 
 -- with no echo free a restart is a Failed event, and takes no token
@@ -717,7 +722,7 @@ made = (refl, refl, refl, refl)
 
 settled : Lives (fresh 4 1000 0 100) one-frame
     × Lives (fresh 4 0 0 100) three-frames
-    × Lives (fresh 4 0 0 100) restarts
+    × Lives (fresh 4 1000 0 100) restarts
     × Lives (fresh 4 0 0 100) waits
     × Lives (fresh 4 0 0 100) equal-ages
     × Lives (fresh 4 1000 0 100) replacement
