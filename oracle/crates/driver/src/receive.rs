@@ -15,7 +15,7 @@ use bts136::harness::{
 };
 use std::process::ExitCode;
 
-/// How many operations a script of `receive` has at most.
+/// How many operations a script of `receive` has at most, beside those that ask what the receiver tells.
 const SCRIPT_OPERATIONS: usize = 400;
 /// More than the longest answer of these operations.
 const ANSWER_OCTETS: usize = 328;
@@ -65,6 +65,7 @@ fn script(random: &mut Random) -> Case {
         let left = SCRIPT_OPERATIONS - operations.len();
         operations.extend(transfer(random, left));
     }
+    let operations = told(operations);
     Case {
         room: ANSWER_OCTETS * operations.len() + 1,
         script: operations.concat(),
@@ -72,6 +73,11 @@ fn script(random: &mut Random) -> Case {
     }
 }
 
+/// Each operation, and after it what the receiver then tells.
+fn told(operations: Operations) -> Operations {
+    let tells = |operation| [operation, vec![STATUS], vec![COMPLETE]];
+    operations.into_iter().flat_map(tells).collect()
+}
 /// A receiver and one or two transfers to it, at most so many operations.
 pub fn transfer(random: &mut Random, most: usize) -> Operations {
     let kind = random.octet() % 4;
