@@ -1,13 +1,13 @@
 -- Sets of frames as numbers, said bit by bit: what each operation does to bit k, and that the bits are the set. Assumes nothing.
 use mathlib.Core.Path.{_≡_, refl, sym, ap, _∙_}
 use mathlib.Core.Logic.{⊎-elim}
-use mathlib.Core.Bool.{Bool, true, false, not, _&&_, _||_}
+use mathlib.Core.Bool.{Bool, true, false, _&&_, _||_}
 use Prim.Native.Nat.{ℕ, zero, suc, _+_, _-_, _*_, _/_, _%_, _^_, _≤_, _<_, min, max}
-use native.Mathlib.Nat.{zero-div, pow-suc, div-eq-of-lt, one-mul, mul-mod-left, pow-succ', div-div-eq-div-mul, div-one, mod-lt}
+use native.Mathlib.Nat.{zero-div, pow-suc, div-eq-of-lt, one-mul, mul-mod-left, pow-succ', div-div-eq-div-mul, div-one}
 use native.Mathlib.Omega.{arith}
 use lib.Dec.{eqb}
 use lib.Bits.{bitAnd, bitOr, bitXor, and-shr, or-shr, xor-shr, and-step, or-step, xor-add-and, and-le-l, xor-lt}
-use lib.Pow.{pow-lt, pow-mono, pow-pos, pow-add, shl-shr, shr-shr, split}
+use lib.Pow.{pow-lt, pow-mono, pow-add, shl-shr}
 use borrow.Author.Tests.{eqb-true, eqb-false, eq-eqb, ne-eqb}
 use Rattle.receiver.specs.Map.{bitOf, withBit}
 use Rattle.receiver.proofs.Maps.{compared}
@@ -93,14 +93,6 @@ no-bits a h = same-bits a 0 (λ k. h k ∙ sym (bit-none k))
 pub below-bits : (n a k : ℕ) → a < 2 ^ n → n ≤ k → bitOf a k ≡ 0
 below-bits n a k h l = let e : a / 2 ^ k ≡ 0 = div-eq-of-lt (omega (arith, pow-mono {i = n} {j = k} l)) in rw e
 
--- and one that has none is below it
-pub bits-below : (n a : ℕ) → ((k : ℕ) → n ≤ k → bitOf a k ≡ 0) → a < 2 ^ n
-bits-below n a h =
-    let z : a / 2 ^ n ≡ 0 = no-bits (a / 2 ^ n) (λ k. ap (λ (i : ℕ). i % 2) (shr-shr a n k) ∙ h (n + k) (omega arith)) in
-    let s : a / 2 ^ n * 2 ^ n + a % 2 ^ n ≡ a = split a n in
-    let t : 0 * 2 ^ n + a % 2 ^ n ≡ a = rw z at s in
-    omega (arith, mod-lt a (pow-pos n))
-
 -- what is left of a set is below what that was
 pub without-low : (n a b : ℕ) → a < 2 ^ n → without a b < 2 ^ n
 without-low n a b h = xor-lt n a (bitAnd a b) h (omega (arith, and-le-l a b))
@@ -147,10 +139,6 @@ has-or a b k = ap (λ (n : ℕ). eqb n 1) (bit-or a b k) ∙ two-digits (λ p q.
 pub has-and : (a b k : ℕ) → has (bitAnd a b) k ≡ (has a k && has b k)
 has-and a b k = ap (λ (n : ℕ). eqb n 1) (bit-and a b k) ∙ two-digits (λ p q. eqb (min p q) 1 ≡ (eqb p 1 && eqb q 1)) refl refl refl refl (bitOf a k) (bitOf b k) (bit-low a k) (bit-low b k)
 
--- of the first alone
-pub has-without : (a b k : ℕ) → has (without a b) k ≡ (has a k && not (has b k))
-has-without a b k = ap (λ (n : ℕ). eqb n 1) (bit-without a b k) ∙ two-digits (λ p q. eqb (p - q) 1 ≡ (eqb p 1 && not (eqb q 1))) refl refl refl refl (bitOf a k) (bitOf b k) (bit-low a k) (bit-low b k)
-
 -- frame k alone
 pub has-alone : (k j : ℕ) → has (frameAlone k) j ≡ eqb j k
 has-alone k j = ⊎-elim here (⊎-elim same there) (compared j k)
@@ -167,10 +155,6 @@ has-alone k j = ⊎-elim here (⊎-elim same there) (compared j k)
 -- frame k added
 pub has-added : (a k j : ℕ) → has (withBit a k) j ≡ (has a j || eqb j k)
 has-added a k j = has-or a (frameAlone k) j ∙ ap (λ (t : Bool). has a j || t) (has-alone k j)
-
--- a set with no frame is empty
-pub no-frames : (a : ℕ) → ((k : ℕ) → has a k ≡ false) → a ≡ 0
-no-frames a h = no-bits a (λ k. lacks-bit a k (h k))
 
 -- equal frames, equal sets
 pub same-frames : (a b : ℕ) → ((k : ℕ) → has a k ≡ has b k) → a ≡ b

@@ -267,16 +267,6 @@ refresh-waiting-call-kept v m block now h =
 
 -- ---- what `advance` says
 
--- a sender that is let through is walked, and the call gives
-pub advance-gives : (v : View) (m : Lent) (block now : ℕ) {w : View} → admitted v m block now ≡ gives w → advanceOf v m block now ≡ says tt (walked w)
-unfolding advanceOf
-advance-gives v m block now e = ap (λ (o : Outcome View). onward v o (λ w. says tt (walked w))) e
-
--- one that is not is refused by the same number, and stays
-pub advance-refuses : (v : View) (m : Lent) (block now : ℕ) {n : ℕ} → admitted v m block now ≡ refuses n → advanceOf v m block now ≡ record { outcome = refuses n; state = v }
-unfolding advanceOf
-advance-refuses v m block now e = ap (λ (o : Outcome View). onward v o (λ w. says tt (walked w))) e
-
 -- it gives, or refuses 16, 18 or 22
 abbrev pub Answers : Outcome Unit → Type 0
 Answers o = (o ≡ gives tt) ⊎ ((o ≡ refuses 16) ⊎ ((o ≡ refuses 18) ⊎ (o ≡ refuses 22)))
@@ -312,10 +302,6 @@ advance-never v m block now =
 -- with no echo free the transfer is Failed
 pub restart-fails : (v : View) (x : Transfer) → freeEcho (v .echoes) (v .clock .«last_ms») ≡ none → landed v x Restarts ≡ ended v x (Failed (x .parcel .completion) EchoExhausted)
 restart-fails v x e = ap (restart v x) e
-
--- with one free it brings no event
-pub restart-begins : (v : View) (x : Transfer) {echo : ℕ} → freeEcho (v .echoes) (v .clock .«last_ms») ≡ some echo → landed v x Restarts .events ≡ v .events
-restart-begins v x e = ap (λ (o : Option ℕ). restart v x o .events) e
 
 -- a restart is Failed exactly if each of the 128 echoes is held until later
 pub restart-fails-exactly : (v : View) (x : Transfer) → length (v .echoes .«echo_until_ms») ≡ 128 → v .echoes .«next_echo» < 128
