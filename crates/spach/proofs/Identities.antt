@@ -13,6 +13,7 @@ use Rattle.spach.specs.Refusal.{Outcome, gives, refuses, refuse}
 use Rattle.spach.specs.Identity.{checkIdentity, acceptIdentity}
 use Rattle.spach.proofs.Outcomes.{passed}
 
+-- refused by n, here or by what follows
 refused-else : {A : Type 0} (t : Bool) (n : ℕ) (o : Outcome A) → (t ≡ false → o ≡ refuses n) → refuse t n o ≡ refuses n
 refused-else true n o h = refl
 refused-else false n o h = h refl
@@ -48,6 +49,7 @@ checks-exactly i = (
   λ p. rw (in-range (valueOf i) (widthOf (typeOf i)) (p .0) (p .1)),
 )
 
+-- and any other is refused 2
 pub checks-else : (i : MobileIdentity) → ((0 < valueOf i) × (valueOf i < 2 ^ widthOf (typeOf i)) → ⊥) → checkIdentity i ≡ refuses 2
 unfolding checkIdentity encodable
 checks-else i n = refused-else (not (encodable i)) 2 _ (λ d. absurd (n (range-in (valueOf i) (widthOf (typeOf i)) (not-false _ d))))
