@@ -1,5 +1,4 @@
-// Loops of encode, decode and the cut. The round is the echo of what is encoded or cut, and names the octet that is told of each
-// frame.
+// Calls on frames. The round is the echo of what is cut, and names the octet that is told of each frame.
 use arq::ArqFrame;
 use arq::ArqHeader;
 use arq::CountAnswer;
@@ -8,9 +7,10 @@ use arq::FrameKind;
 use rach::MobileIdentity;
 use script_codec::operands::Cut;
 use script_codec::operands::CutOperand;
+use spach::AddressAnswer;
+use spach::HeaderAAnswer;
+use spach::Reader;
 use spach::Verdict;
-ghost use Prim.Native.Nat.{_+_, _≤_};
-ghost use lib.ListN.{length};
 
 fn with_echo(header: ArqHeader, round: u64) -> ArqHeader {
     let mut changed = header;
@@ -64,61 +64,65 @@ fn told_answer(answer: FrameAnswer, round: u64, encode: bool) -> u64 {
     told(frame, round)
 }
 
-fn encode_rounds(frame: ArqFrame, rounds: u64, all: u64) -> u64 {
-    let mut sum = all;
+// A frame under every echo in turn.
+fn encode_echoes(frame: ArqFrame) -> u64 {
+    let mut sum: u64 = 0;
     let mut changed = frame;
-    let mut round: u64 = 0;
-    while round < rounds {
-        let header = with_echo(changed.header, round);
+    let mut echo: u64 = 0;
+    while echo < 128 {
+        let header = with_echo(changed.header, echo);
         changed.header = header;
-        sum = std::num::wrapping_add_u64(sum, told_encoded(changed, round));
-        round += 1;
+        sum = std::num::wrapping_add_u64(sum, told_encoded(changed, echo));
+        echo += 1;
     }
     sum
 }
 
-// The frame operand at `at`; nothing, if it names no frame.
-fn encode_operand(frames: &[u8], at: usize, rounds: u64, all: u64) -> u64
-    requires { ⌜ at + 36 ≤ length (now frames) ⌝ }
-{
-    let CutOperand::Cut(cut) = script_codec::operands::cut_at(frames, at + 1) else {
-        return all;
+// The frame operand is read once, and encoded under every echo; nothing, if it names no frame.
+pub fn encode(operand: &[u8]) -> u64 {
+    if operand.len() < 36 {
+        return 0;
+    }
+    let CutOperand::Cut(cut) = script_codec::operands::cut_at(operand, 1) else {
+        return 0;
     };
-    let frame = script_codec::operands::frame_of(frames, at, cut);
-    encode_rounds(frame, rounds, all)
+    encode_echoes(script_codec::operands::frame_of(operand, 0, cut))
 }
 
-// Each frame operand, `rounds` times over.
-pub fn time_encode(frames: &[u8], rounds: u64) -> u64 {
-    let mut all: u64 = 0;
-    let mut at: usize = 0;
-    while 36 <= frames.len() - at {
-        all = encode_operand(frames, at, rounds, all);
-        at += 36;
-    }
-    all
+pub fn decode(octets: &[u8], round: u64) -> u64 {
+    told_answer(arq::read::decode(octets), round, false)
 }
 
-fn decode_round(octets: &[u8], round: u64, all: u64) -> u64 {
-    let mut sum = all;
-    let mut at: usize = 0;
-    while 14 <= octets.len() - at {
-        let answer = arq::read::decode(&octets[at..at + 14]);
-        sum = std::num::wrapping_add_u64(sum, told_answer(answer, round, false));
-        at += 14;
+// Header A at bit 0 of a frame: the exclusive or of usage, flags and the offset after it.
+pub fn header_a(frame: &[u8]) -> u64 {
+    if frame.len() != 14 {
+        return 0;
     }
-    sum
+    match spach::read_header_a(frame, Reader { offset: 0 }) {
+        HeaderAAnswer::Header(header) => {
+            let channel = header.channel;
+            let flags = script_leaf::headers::flags_octet(header.flags);
+            let reader = header.reader;
+            channel.usage() as u64 ^ flags as u64 ^ reader.offset as u64
+        }
+        HeaderAAnswer::Refused(error) => error.number() as u64,
+    }
 }
 
-// All frames of 14 octets, `rounds` times over.
-pub fn time_decode(octets: &[u8], rounds: u64) -> u64 {
-    let mut all: u64 = 0;
-    let mut round: u64 = 0;
-    while round < rounds {
-        all = decode_round(octets, round, all);
-        round += 1;
+// The address at bit 10 of a frame: the exclusive or of the identity's value, the reservation response and the offset after it.
+pub fn address(frame: &[u8]) -> u64 {
+    if frame.len() != 14 {
+        return 0;
     }
-    all
+    match spach::read_address(frame, Reader { offset: 10 }) {
+        AddressAnswer::Address(address) => {
+            let identity = address.identity;
+            let parts = rach::parts(identity);
+            let reader = address.reader;
+            parts.value ^ address.reservation_response as u64 ^ reader.offset as u64
+        }
+        AddressAnswer::Refused(error) => error.number() as u64,
+    }
 }
 
 // The first `count` frames of a message.
@@ -149,19 +153,13 @@ fn cut_round(cut: Cut, message: &[u8], round: u64, encode: bool) -> u64 {
     }
 }
 
-// All frames of the message, and of each its octets if `encode`, `rounds` times over.
-pub fn time_cut(operands: &[u8], message: &[u8], rounds: u64, encode: bool) -> u64 {
-    if operands.len() < 14 {
+// All frames of the message, and of each its octets if `encode`. The operand is header and identity.
+pub fn cut(operand: &[u8], message: &[u8], round: u64, encode: bool) -> u64 {
+    if operand.len() < 14 {
         return 0;
     }
-    let CutOperand::Cut(cut) = script_codec::operands::cut_at(operands, 0) else {
+    let CutOperand::Cut(cut) = script_codec::operands::cut_at(operand, 0) else {
         return 0;
     };
-    let mut all: u64 = 0;
-    let mut round: u64 = 0;
-    while round < rounds {
-        all = std::num::wrapping_add_u64(all, cut_round(cut, message, round, encode));
-        round += 1;
-    }
-    all
+    cut_round(cut, message, round, encode)
 }

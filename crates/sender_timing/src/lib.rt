@@ -1,7 +1,5 @@
-// Loops of the sender's calls, for timing. Each begins with `live` transfers of 255 octets at block 0, and is 0 at once if the
-// lent memory is too small for a sender, or `live` is not 1 to 128.
+// The loop of a sender's calls, for timing.
 pub mod cycles;
-pub mod queries;
 
 use rach::MobileIdentity;
 use sender::Enqueued;
@@ -12,7 +10,7 @@ use transfer::Request;
 ghost use Rattle.sender.specs.Arrays.{Whole};
 
 // Memory for a sender, and 1 to 128 transfers.
-pub fn fits(live: u64, octets: usize, words: usize) -> bool {
+fn fits(live: u64, octets: usize, words: usize) -> bool {
     if octets < 32640 {
         return false;
     }
@@ -26,7 +24,7 @@ pub fn fits(live: u64, octets: usize, words: usize) -> bool {
 }
 
 // 1 for a call that is not refused.
-pub fn accepted(verdict: Verdict) -> u64 {
+fn accepted(verdict: Verdict) -> u64 {
     match verdict {
         Verdict::Accepted => 1,
         Verdict::Refused(error) => 0,
@@ -70,55 +68,26 @@ pub fn filled(first: u64, last: u64, store: &mut [u8], words: &[u64]) -> Sender
     s
 }
 
-#[no_mangle]
-pub extern "C" fn time_sender_advance(
-    live: u64,
-    rounds: u64,
-    store: &mut [u8],
-    words: &mut [u64],
-) -> u64 {
-    if !fits(live, store.len(), words.len()) {
-        return 0;
-    }
-    let mut s = filled(0, live, store, words);
-    let mut all: u64 = 0;
-    let mut round: u64 = 0;
-    while round < rounds {
-        round += 1;
-        let moved = s.advance(0, 0, store, words);
-        let verdict = moved.verdict;
-        s = moved.sender;
-        all = std::num::wrapping_add_u64(all, accepted(verdict));
-    }
-    all
+// An identity that no transfer has, another in each round.
+fn stranger(round: u64) -> MobileIdentity {
+    MobileIdentity::Min34(256 + round % 256)
 }
 
-// The frame that was prepared first, again and again.
-#[no_mangle]
-pub extern "C" fn time_sender_prepare(
-    live: u64,
-    rounds: u64,
-    store: &mut [u8],
-    words: &mut [u64],
-) -> u64 {
-    if !fits(live, store.len(), words.len()) {
-        return 0;
+fn asks(call: u8, s: Sender, round: u64) -> bool
+    requires { ⌜ Whole s ⌝ }
+{
+    if call == 7 {
+        return s.contains(stranger(round));
     }
-    let mut s = filled(0, live, store, words);
-    let mut all: u64 = 0;
-    let mut round: u64 = 0;
-    while round < rounds {
-        round += 1;
-        let prepared = s.prepare(0, 0, store, words);
-        let verdict = prepared.verdict;
-        s = prepared.sender;
-        all = std::num::wrapping_add_u64(all, accepted(verdict));
-    }
-    all
+    s.ready()
 }
 
+// How many rounds did something, of a call on a sender with `live` transfers of 255 octets at block 0: the three cycles, prepare of
+// the frame that was prepared first, advance, refresh_waiting, cancel and contains of a stranger, ready. 0 at once if the
+// lent memory is too small for a sender, or `live` is not 1 to 128.
 #[no_mangle]
-pub extern "C" fn time_sender_refresh(
+pub extern "C" fn time_sender(
+    call: u8,
     live: u64,
     rounds: u64,
     store: &mut [u8],
@@ -127,15 +96,41 @@ pub extern "C" fn time_sender_refresh(
     if !fits(live, store.len(), words.len()) {
         return 0;
     }
-    let mut s = filled(0, live, store, words);
+    let begun = cycles::set_up(call, live, store, words);
+    let echo = begun.echo;
+    let mut s = begun.sender;
     let mut all: u64 = 0;
     let mut round: u64 = 0;
     while round < rounds {
         round += 1;
-        let moved = s.refresh_waiting(0, 0, store, words);
-        let verdict = moved.verdict;
-        s = moved.sender;
-        all = std::num::wrapping_add_u64(all, accepted(verdict));
+        if call < 3 {
+            let turn = cycles::cycle(call, s, echo, live, round, store, words);
+            s = turn.sender;
+            all = std::num::wrapping_add_u64(all, turn.done);
+        } else if call == 3 {
+            let prepared = s.prepare(0, 0, store, words);
+            let verdict = prepared.verdict;
+            s = prepared.sender;
+            all = std::num::wrapping_add_u64(all, accepted(verdict));
+        } else if call == 4 {
+            let moved = s.advance(0, 0, store, words);
+            let verdict = moved.verdict;
+            s = moved.sender;
+            all = std::num::wrapping_add_u64(all, accepted(verdict));
+        } else if call == 5 {
+            let moved = s.refresh_waiting(0, 0, store, words);
+            let verdict = moved.verdict;
+            s = moved.sender;
+            all = std::num::wrapping_add_u64(all, accepted(verdict));
+        } else if call == 6 {
+            let cancelled = s.cancel(stranger(round));
+            let found = cancelled.found;
+            s = cancelled.sender;
+            all = std::num::wrapping_add_u64(all, found as u64);
+        } else {
+            let found = asks(call, s, round);
+            all = std::num::wrapping_add_u64(all, found as u64);
+        }
     }
     all
 }

@@ -16,48 +16,17 @@ accepted : (m : Moved) → made m ≡ answered blankView (newOf 128 0 0 1) → v
 unfolding newOf
 accepted m e = ap (λ p. p .0) e
 
-abbrev Inv-loop : tie.InvT-loop
-Inv-loop first last store₀ words s₀ i₀ store s i = Whole s × (length store ≡ length store₀)
-
-abbrev μ-loop : tie.MeasureT-loop
-μ-loop first last store₀ words s₀ i₀ store s i = last - i
-
-try-new-requires : tie.Need-try-new-requires Inv-loop μ-loop
-try-new-requires c κs = search needs
-
-loop-holds : tie.Need-loop-holds Inv-loop μ-loop
-loop-holds c =
-    (c .before .try-new .ensures .1 (accepted (c .before .try-new .result) (c .before .try-new .ensures .0)), refl)
-
-add-i : tie.Need-add-i Inv-loop μ-loop
-add-i c = search needs
-
-ask-requires : tie.Need-ask-requires Inv-loop μ-loop
-ask-requires c κs = search needs
-
-loop-less : tie.Need-loop-less Inv-loop μ-loop
-loop-less c = search needs
-
-loop-again : tie.Need-loop-again Inv-loop μ-loop
-loop-again c = search needs
-
-same-length : tie.Need-same-length Inv-loop μ-loop
-same-length c = search needs
-
-returns : tie.Need-returns Inv-loop μ-loop
-returns c = search needs
-
 pub filled-spec : {M : Type 1} → statement M
 filled-spec =
     tie.close
     (tie.spec
-    Inv-loop
-    μ-loop
-    try-new-requires
-    loop-holds
-    add-i
-    ask-requires
-    loop-less
-    loop-again
-    same-length
-    returns)
+    (λ first last store₀ words s₀ i₀ store s i. Whole s × (length store ≡ length store₀))
+    (λ first last store₀ words s₀ i₀ store s i. last - i)
+    (λ c κs. search needs)
+    (λ c. (c .before .try-new .ensures .1 (accepted (c .before .try-new .result) (c .before .try-new .ensures .0)), refl))
+    (λ c. search needs)
+    (λ c κs. search needs)
+    (λ c. search needs)
+    (λ c. search needs)
+    (λ c. search needs)
+    (λ c. search needs))

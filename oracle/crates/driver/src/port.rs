@@ -17,47 +17,15 @@ mod raw {
             words: *mut u64,
             words_length: usize,
         ) -> usize;
-        pub fn time_take(
-            octets: *const u8,
-            length: usize,
-            places: *const u8,
-            places_length: usize,
-            rounds: u64,
-        ) -> u64;
-        pub fn time_put(
-            octets: *mut u8,
-            length: usize,
-            places: *const u8,
-            places_length: usize,
-            rounds: u64,
-        );
-        pub fn time_header_a(octets: *const u8, length: usize, rounds: u64) -> u64;
-        pub fn time_address(octets: *const u8, length: usize, rounds: u64) -> u64;
-        pub fn time_copy(
-            to: *mut u8,
-            to_length: usize,
-            from: *const u8,
-            from_length: usize,
-            places: *const u8,
-            places_length: usize,
-            rounds: u64,
-        );
-        pub fn time_encode(frames: *const u8, length: usize, rounds: u64) -> u64;
-        pub fn time_decode(octets: *const u8, length: usize, rounds: u64) -> u64;
-        pub fn time_cut(
+        pub fn time_calls(
+            call: u8,
+            dst: *mut u8,
+            dst_length: usize,
+            src: *const u8,
+            src_length: usize,
             operands: *const u8,
             operands_length: usize,
-            message: *const u8,
-            length: usize,
-            rounds: u64,
-            encode: bool,
-        ) -> u64;
-        pub fn time_receive(
-            identity: *const u8,
-            identity_length: usize,
-            octets: *const u8,
-            length: usize,
-            rounds: u64,
+            round: u64,
         ) -> u64;
     }
 }
@@ -108,73 +76,36 @@ pub fn sender_run(
         )
     }
 }
-pub fn time_take(octets: &[u8], places: &[u8], rounds: u64) -> u64 {
+/// The calls that are timed, in the port's order.
+#[derive(Clone, Copy)]
+pub enum Call {
+    Take,
+    Put,
+    Copy,
+    HeaderA,
+    Address,
+    Decode,
+    Encode,
+    Cut,
+    CutEncode,
+    Push,
+    Receive,
+    Report,
+    Advance,
+    TimerReceivedFrame,
+    TimerAdvance,
+}
+pub fn time_calls(call: Call, dst: &mut [u8], src: &[u8], operands: &[u8], round: u64) -> u64 {
     unsafe {
-        raw::time_take(
-            octets.as_ptr(),
-            octets.len(),
-            places.as_ptr(),
-            places.len(),
-            rounds,
-        )
-    }
-}
-pub fn time_put(octets: &mut [u8], places: &[u8], rounds: u64) {
-    unsafe {
-        raw::time_put(
-            octets.as_mut_ptr(),
-            octets.len(),
-            places.as_ptr(),
-            places.len(),
-            rounds,
-        );
-    }
-}
-pub fn time_header_a(octets: &[u8], rounds: u64) -> u64 {
-    unsafe { raw::time_header_a(octets.as_ptr(), octets.len(), rounds) }
-}
-pub fn time_address(octets: &[u8], rounds: u64) -> u64 {
-    unsafe { raw::time_address(octets.as_ptr(), octets.len(), rounds) }
-}
-pub fn time_copy(to: &mut [u8], from: &[u8], places: &[u8], rounds: u64) {
-    unsafe {
-        raw::time_copy(
-            to.as_mut_ptr(),
-            to.len(),
-            from.as_ptr(),
-            from.len(),
-            places.as_ptr(),
-            places.len(),
-            rounds,
-        );
-    }
-}
-pub fn time_encode(frames: &[u8], rounds: u64) -> u64 {
-    unsafe { raw::time_encode(frames.as_ptr(), frames.len(), rounds) }
-}
-pub fn time_decode(octets: &[u8], rounds: u64) -> u64 {
-    unsafe { raw::time_decode(octets.as_ptr(), octets.len(), rounds) }
-}
-pub fn time_cut(operands: &[u8], message: &[u8], rounds: u64, encode: bool) -> u64 {
-    unsafe {
-        raw::time_cut(
+        raw::time_calls(
+            call as u8,
+            dst.as_mut_ptr(),
+            dst.len(),
+            src.as_ptr(),
+            src.len(),
             operands.as_ptr(),
             operands.len(),
-            message.as_ptr(),
-            message.len(),
-            rounds,
-            encode,
-        )
-    }
-}
-pub fn time_receive(identity: &[u8], octets: &[u8], rounds: u64) -> u64 {
-    unsafe {
-        raw::time_receive(
-            identity.as_ptr(),
-            identity.len(),
-            octets.as_ptr(),
-            octets.len(),
-            rounds,
+            round,
         )
     }
 }

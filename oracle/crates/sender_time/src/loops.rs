@@ -110,7 +110,7 @@ pub fn status(live: u64, rounds: u64) -> u64 {
 pub fn enqueue(live: u64, rounds: u64) -> u64 {
     let mut sender = filled(1, live);
     sum(rounds, |round| {
-        let now_ms = 2 * (round - 1);
+        let now_ms = 2 * round;
         let _ = black_box(ask(&mut sender, 1, now_ms + 1, now_ms));
         black_box(sender.pop_event()).is_some()
     })

@@ -1,8 +1,22 @@
-//! Safe names of the port's loops. A slice is two C arguments there, pointer then length.
+//! A safe name of the port's loop. A slice is two C arguments there, pointer then length.
 //!
-//! None of these has a precondition beyond valid slices, and Rust's borrows keep the slices apart.
+//! It has no precondition beyond valid slices, and Rust's borrows keep the slices apart.
 const OCTETS: usize = 32_640;
 const WORDS: usize = 3_456;
+
+mod raw {
+    unsafe extern "C" {
+        pub fn time_sender(
+            call: u8,
+            live: u64,
+            rounds: u64,
+            store: *mut u8,
+            store_length: usize,
+            words: *mut u64,
+            words_length: usize,
+        ) -> u64;
+    }
+}
 
 /// The memory that is lent to a sender.
 pub struct Memory {
@@ -17,46 +31,32 @@ impl Default for Memory {
         }
     }
 }
-pub type Loop = fn(live: u64, rounds: u64, memory: &mut Memory) -> u64;
 
-macro_rules! loops {
-    ($($name:ident: $exported:ident),* $(,)?) => {
-        mod raw {
-            unsafe extern "C" {
-                $(pub fn $exported(
-                    live: u64,
-                    rounds: u64,
-                    store: *mut u8,
-                    store_length: usize,
-                    words: *mut u64,
-                    words_length: usize,
-                ) -> u64;)*
-            }
-        }
-        $(pub fn $name(live: u64, rounds: u64, memory: &mut Memory) -> u64 {
-            let Memory { store, words } = memory;
-            // SAFETY: both slices are valid, and apart.
-            unsafe {
-                raw::$exported(
-                    live,
-                    rounds,
-                    store.as_mut_ptr(),
-                    store.len(),
-                    words.as_mut_ptr(),
-                    words.len(),
-                )
-            }
-        })*
-    };
+/// The calls, in the port's order.
+#[derive(Clone, Copy)]
+pub enum Call {
+    Frame,
+    Status,
+    Enqueue,
+    Prepare,
+    Advance,
+    Refresh,
+    Cancel,
+    Contains,
+    Ready,
 }
-loops! {
-    advance: time_sender_advance,
-    prepare: time_sender_prepare,
-    frame: time_sender_frame,
-    status: time_sender_status,
-    enqueue: time_sender_enqueue,
-    cancel: time_sender_cancel,
-    refresh: time_sender_refresh,
-    ready: time_sender_ready,
-    contains: time_sender_contains,
+pub fn time_sender(call: Call, live: u64, rounds: u64, memory: &mut Memory) -> u64 {
+    let Memory { store, words } = memory;
+    // SAFETY: both slices are valid, and apart.
+    unsafe {
+        raw::time_sender(
+            call as u8,
+            live,
+            rounds,
+            store.as_mut_ptr(),
+            store.len(),
+            words.as_mut_ptr(),
+            words.len(),
+        )
+    }
 }
