@@ -249,7 +249,7 @@ impl Life {
         if random.chance(2) {
             life.unmade(random);
         }
-        if random.chance(2) {
+        if random.chance(6) {
             let capacity = random_capacity(random);
             life.made(random, seen, &Limits { capacity, ..limits });
             life.any_call(random, seen);
