@@ -96,7 +96,7 @@ fn told_receive(answer: ReceiveAnswer, octet: u64) -> u64 {
             ReceiveEvent::Ignored => 0,
             ReceiveEvent::Accepted { message, status } => told_delivery(message, octet),
         },
-        ReceiveAnswer::Refused(error) => values::number_of(error) as u64,
+        ReceiveAnswer::Refused(error) => error.number() as u64,
     }
 }
 
@@ -143,7 +143,7 @@ fn report(p: ArqProcedure, frame: &[u8], buffer: &mut [u8], round: u64) -> Lived
     let reported = sent.procedure;
     let told = match answer {
         SendAnswer::Event(event) => script_event::values::send_event_octet(event) as u64,
-        SendAnswer::Refused(error) => values::number_of(error) as u64,
+        SendAnswer::Refused(error) => error.number() as u64,
     };
     Lived {
         procedure: reported,
@@ -168,7 +168,7 @@ fn advance(p: ArqProcedure, frame: &[u8], buffer: &mut [u8], round: u64) -> Live
             TimerEvent::SendStatus(status) => 2,
             TimerEvent::Terminated => 3,
         },
-        TimerAnswer::Refused(error) => values::number_of(error) as u64,
+        TimerAnswer::Refused(error) => error.number() as u64,
     };
     Lived {
         procedure: after,
