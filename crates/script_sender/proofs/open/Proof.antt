@@ -35,8 +35,8 @@ try-new-requires c κs = search needs
 enum-known-verdict : tie.Need-enum-known-verdict
 enum-known-verdict c = search needs
 
-error-number-requires : tie.Need-error-number-requires
-error-number-requires c κs = search needs
+number-requires : tie.Need-number-requires
+number-requires c κs = search needs
 
 closed-requires : tie.Need-closed-requires
 closed-requires c κs = c .before .before .before .before .before .before .before .before .before .before .before .before .before .before .pre
@@ -47,8 +47,8 @@ returns c = c .closed .ensures
 enum-told : tie.Need-enum-told
 enum-told c = search needs
 
-number-requires : tie.Need-number-requires
-number-requires c κs = search needs
+number-requires-2 : tie.Need-number-requires-2
+number-requires-2 c κs = search needs
 
 with-sender-requires : tie.Need-with-sender-requires
 with-sender-requires c κs =
@@ -72,10 +72,10 @@ open-spec =
     eight-requires-4
     try-new-requires
     enum-known-verdict
-    error-number-requires
+    number-requires
     closed-requires
     returns
     enum-told
-    number-requires
+    number-requires-2
     with-sender-requires
     returns-2)
