@@ -83,8 +83,8 @@ pub record ShowsAll (x : Session) (l : List Push) (before after : List ℕ) (r :
   pub wrote : Wrote before after 0 (r .end) (linesOf x l)
   pub inside : Counts (r .end) after
 
--- from x on, octets were read, 64 frames at most, and their whole frames were pushed. They leave y, so many octets to read and
--- so many of a cut frame; the input may go on if they are 64 frames
+-- from x on there are octets, 64 frames at most, whose whole frames were pushed (that they are the input's is not said here: it is
+-- run). They leave y, so many octets to read and so many of a cut frame; the input may go on if they are 64 frames
 pub record Chunk (x : Session) (limit : ℕ) (y : Session) (l k : ℕ) (m : Bool) : Type 0 where
   pub octets : List ℕ
   pub most : length octets ≤ 896

@@ -1,7 +1,8 @@
 -- 01, module 6: the Rust's `advance` and the calls that make it, step by step as they are written; read it beside the Rust. The
 -- definitions leave out steps that change nothing, and count frames where the Rust looks at each. Every call here is proved to be
 -- the definition that its contract cites, on every sender that calls make (proofs/Literal.antt), so no contract names these. What is
--- not the Rust's here either: sets of frames and tokens are numbers, and 16 and 18 are added. Assumes nothing.
+-- not the Rust's here either: sets of frames and tokens are numbers, frames are cut when they are prepared, submissions lie in the
+-- lent words, a frame token's number is compared, and 16 and 18 are added. Assumes nothing.
 use mathlib.Core.Bool.{Bool, true, false, cond, not, _&&_, _||_}
 use mathlib.Core.List.{List, [], _∷_, _++_, map}
 use mathlib.Core.Option.{Option, none, some}
