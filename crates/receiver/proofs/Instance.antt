@@ -79,7 +79,7 @@ next = record { channel = Arch; flags = plain .flags; «partial_echo» = 6; poll
 abbrev elsewhere : ArqHeader
 elsewhere = record { channel = Smsch; flags = plain .flags; «partial_echo» = 5; polling = false; «response_mode» = Contention }
 
-abbrev octetsIn : Outcome PackedFrame → List ℕ
+abbrev pub octetsIn : Outcome PackedFrame → List ℕ
 octetsIn (gives p) = p .octets
 octetsIn (refuses n) = []
 
@@ -196,11 +196,11 @@ module _ (h : ArqHeader) (i : MobileIdentity) (m : List ℕ) (x : ArqFrame) wher
         }
 
 -- numbers of eight bits, tested
-abbrev small : List ℕ → Bool
+abbrev pub small : List ℕ → Bool
 small [] = true
 small (x ∷ l) = ltb x 256 && small l
 
-small-octets : (l : List ℕ) → small l ≡ true → Octets l
+pub small-octets : (l : List ℕ) → small l ≡ true → Octets l
 small-octets [] e j = omega arith
 small-octets (x ∷ l) e zero = ltb-true x 256 (both (ltb x 256) (small l) e .0)
 small-octets (x ∷ l) e (suc j) = small-octets l (both (ltb x 256) (small l) e .1) j

@@ -68,7 +68,7 @@ same-octets (x ∷ a) (y ∷ b) e =
     let p = both (eqb x y) (sameOctets a b) e in
     ap₂ (λ (z : ℕ) (l : List ℕ). z ∷ l) (eqb-true x y (p .0)) (same-octets a b (p .1))
 
-octets-same : (a : List ℕ) → sameOctets a a ≡ true
+pub octets-same : (a : List ℕ) → sameOctets a a ≡ true
 octets-same [] = refl
 octets-same (x ∷ a) = rw (eq-eqb x x refl) (octets-same a)
 

@@ -13,7 +13,6 @@ use receiver::ArqReassembler;
 use receiver::Delivery;
 use receiver::PushAnswer;
 use receiver::Reception;
-use script_inactivity::values;
 ghost use Rattle.procedure.specs.Procedure.{Sound};
 
 // The octet that the round names, or 0 past the end.

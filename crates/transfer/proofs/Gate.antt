@@ -9,7 +9,7 @@ use Prim.Native.Nat.{ℕ, zero, suc, _+_, _≤_, _<_}
 use native.Mathlib.Omega.{arith}
 use lib.Dec.{eqb, ltb}
 use lib.ListN.{length, take, drop, replicate, getD, length-take}
-use borrow.Author.Tests.{eq-eqb, eqb-true, eqb-false, ltb-true, ltb-false, not-false}
+use borrow.Author.Tests.{eqb-true, eqb-false, ltb-true, ltb-false, not-false}
 use Rattle.field.specs.Bits.{bitsOf}
 use Rattle.field.specs.Layout.{upTo}
 use Rattle.field.proofs.Cuts.{upTo-of-take, upTo-twice, bitsOf-filled}
@@ -40,7 +40,7 @@ use Rattle.receiver.specs.Receiver as receivers
 use Rattle.receiver.specs.Receiver.{Out, sameOctets, pushOf, statusAnswer}
 use Rattle.receiver.specs.Demand3.{Push, CutFrom, Such, OfCut, Fitting, Delivered, Undelivered, Delivers, Silent, runs, Holds}
 use Rattle.receiver.proofs.Heard.{frame-is}
-use Rattle.receiver.proofs.Ways.{by-bool, true-false, same-octets, kinds-apart}
+use Rattle.receiver.proofs.Ways.{by-bool, true-false, same-octets, octets-same, kinds-apart}
 use Rattle.receiver.proofs.Whole.{demand3}
 use Rattle.transfer.specs.declared.Request.{Request}
 use Rattle.transfer.specs.declared.Transfer.{Transfer}
@@ -137,11 +137,6 @@ continue-cut channel echo p i m (suc k) g e a =
     }
 
 -- ---- a message or none
-
--- a list has the same octets as itself
-octets-same : (a : List ℕ) → sameOctets a a ≡ true
-octets-same [] = refl
-octets-same (x ∷ a) = rw (eq-eqb x x refl) (octets-same a)
 
 -- lists are equal, if they cannot differ
 stable-list : (a b : List ℕ) → ((a ≡ b → ⊥) → ⊥) → a ≡ b

@@ -3,20 +3,18 @@
 -- Assumes nothing.
 use mathlib.Core.Path.{_≡_, refl, sym, ap, subst, _∙_}
 use mathlib.Core.Logic.{_⊎_, inl, ⊎-elim}
-use mathlib.Core.Bool.{Bool, true, false, _&&_}
+use mathlib.Core.Bool.{Bool, true, false}
 use mathlib.Core.List.{List, [], _∷_, _++_, List·Memᴰ, List·Memᴰ·cases-cons, List·Memᴰ·not-nil}
-use Prim.Native.Nat.{ℕ, zero, suc, _≤_}
+use Prim.Native.Nat.{ℕ, _≤_}
 use native.Mathlib.Omega.{arith}
 use lib.Count.{ones, onesIn, trailingZeros}
-use lib.Dec.{ltb, lit≤}
+use lib.Dec.{lit≤}
 use lib.ListN.{length, getD, replicate}
-use borrow.Author.Tests.{ltb-true}
-use Rattle.field.specs.Bits.{Octets, bits, value, bitsOf, octets, field}
+use Rattle.field.specs.Bits.{bits, value, bitsOf, octets, field}
 use Rattle.field.specs.Layout.{layout, upTo, anySet}
 use Rattle.rach.specs.Identity.{same, inRange, encodable}
 use Rattle.rach.specs.declared.MobileIdentity.{MobileIdentity}
 use Rattle.rach.specs.declared.MobileIdentity.the-variants.{Tmsi20}
-use Rattle.rach.proofs.Laws.{both}
 use Rattle.spach.specs.declared.Channel.the-variants.{Arch}
 use Rattle.spach.specs.Refusal.{refuses}
 use Rattle.spach.specs.Header.{headerAAt, addressAt}
@@ -29,6 +27,7 @@ use Rattle.arq.specs.Round.{widened}
 use Rattle.receiver.specs.Receiver as receivers
 use Rattle.receiver.specs.Receiver.{Out, slotAt, putSlot, gathered, assembled, finish, pushContinue, pushFrame, pushOf, statusAnswer}
 use Rattle.receiver.specs.Demand3.{Push, heard, BeginFor, Such, Delivers, runs}
+use Rattle.receiver.proofs.Instance.{octetsIn, small, small-octets}
 use Rattle.receiver.proofs.Ways.{kinds-apart}
 use Rattle.transfer.specs.declared.FrameToken.{FrameToken}
 use Rattle.transfer.specs.declared.Request.{Request}
@@ -46,7 +45,6 @@ use Rattle.transfer.specs.History.{Call, Enqueue, Prepare, Submitted, do
 use Rattle.transfer.specs.Gate.{Sent, timesOf, InTime, Listens, GetsOwn, InOctets, told, StartsLate, SentByTwo, timesOfTwo}
 use Rattle.transfer.proofs.Listed.{all-head, all-tail, some-cons, some-all}
 use Rattle.transfer.proofs.Instance.{lends, sender, made, request}
-use Rattle.transfer.proofs.Witness.{octetsOf}
 use Rattle.transfer.proofs.Gate.{gate, late-frames, gate-of-two}
 
 -- ---- two orders
@@ -77,7 +75,7 @@ tokenOf generation submission frame = record { generation = record { 0 = generat
 
 -- a frame as it is prepared
 abbrev preparedAs : MobileIdentity → ArqFrame → FrameToken → PreparedFrame
-preparedAs i f t = record { identity = i; octets = octetsOf (encodeOf f); token = t; «partial_echo» = f .header .«partial_echo» }
+preparedAs i f t = record { identity = i; octets = octetsIn (encodeOf f); token = t; «partial_echo» = f .header .«partial_echo» }
 
 -- and as the gate gets it
 abbrev push : PreparedFrame → Push
@@ -194,17 +192,6 @@ listens = record { rest = rest; first = refl; own = record { kind = refl; identi
     pieces =
         three (λ f. Such mine (widened begin) f → (s : Sent sender lends calls f) × InTime (timesOf begin-sent) (timesOf s)) (λ su. absurd (kinds-apart refl (su .kind)))
         (λ su. let e : _≡_ {A = ℕ} 1 0 = su .echo in absurd (omega arith)) (λ su. (continue-sent, in-time))
-
--- numbers of eight bits, tested
-abbrev small : List ℕ → Bool
-small [] = true
-small (x ∷ l) = ltb x 256 && small l
-
--- they are octets
-small-octets : (l : List ℕ) → small l ≡ true → Octets l
-small-octets [] e j = omega arith
-small-octets (x ∷ l) e zero = ltb-true x 256 (both (ltb x 256) (small l) e .0)
-small-octets (x ∷ l) e (suc j) = small-octets l (both (ltb x 256) (small l) e .1) j
 
 -- what a call hands in is small
 abbrev HandsIn : Call → Type 0

@@ -3,7 +3,6 @@ use mathlib.Core.Path.{_≡_, refl, sym, ap, subst}
 use mathlib.Core.Bool.{Bool, true, false}
 use mathlib.Core.List.{List, [], _∷_}
 use mathlib.Core.Option.{some}
-use Prim.Native.Nat.{ℕ}
 use native.Mathlib.Omega.{arith}
 use lib.Count.{ones, onesIn, trailingZeros}
 use lib.ListN.{getD, replicate}
@@ -12,11 +11,11 @@ use Rattle.field.specs.Layout.{layout, upTo, anySet}
 use Rattle.rach.specs.Identity.{same, inRange, encodable}
 use Rattle.rach.specs.declared.MobileIdentity.the-variants.{Tmsi20}
 use Rattle.spach.specs.declared.Channel.the-variants.{Arch}
-use Rattle.spach.specs.Refusal.{Outcome, gives, refuses, andThen}
-use Rattle.arq.specs.declared.PackedFrame.{PackedFrame}
+use Rattle.spach.specs.Refusal.{gives, andThen}
 use Rattle.arq.specs.Frame.{packed, beginFrame, continueFrame}
 use Rattle.arq.specs.Encode.{encodeOf}
 use Rattle.arq.specs.Cut.{countOf, frameOf}
+use Rattle.receiver.proofs.Instance.{octetsIn}
 use Rattle.transfer.specs.declared.Transfer.{Transfer}
 use Rattle.transfer.specs.declared.PreparedFrame.{PreparedFrame}
 use Rattle.transfer.specs.Echo.{freeEcho}
@@ -54,16 +53,11 @@ prepared = refl
 traced : let at = runAlone sender lends calls in Traced sender lends calls (does (at .0) (at .1) call .sender) frame
 traced = faithful sender lends calls call frame made prepared
 
--- the octets of an encoded frame
-abbrev pub octetsOf : Outcome PackedFrame → List ℕ
-octetsOf (gives p) = p .octets
-octetsOf (refuses n) = []
-
 -- but not to the first one's message: the frame is none of its cut
 not-other : (x : Transfer) → IsFrameOf frame x (request 2 5000) (66 ∷ 67 ∷ []) → ⊥
 unfolding frame octets bitsOf bits value layout upTo anySet same inRange encodable packed beginFrame encodeOf frameOf
 not-other x h = go (h .polling) (subst (λ e. andThen (frameOf (headerOf Arch e (h .polling)) (Tmsi20 2) (66 ∷ 67 ∷ []) 0) encodeOf ≡ gives (record { octets = frame .octets })) (sym (h .echo)) (h .octets))
   where
     go : (polling : Bool) → andThen (frameOf (headerOf Arch 1 polling) (Tmsi20 2) (66 ∷ 67 ∷ []) 0) encodeOf ≡ gives (record { octets = frame .octets }) → ⊥
-    go true e = let z = ap (λ o. getD (octetsOf o) 7 0) e in omega arith
-    go false e = let z = ap (λ o. getD (octetsOf o) 7 0) e in omega arith
+    go true e = let z = ap (λ o. getD (octetsIn o) 7 0) e in omega arith
+    go false e = let z = ap (λ o. getD (octetsIn o) 7 0) e in omega arith
