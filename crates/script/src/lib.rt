@@ -1,6 +1,4 @@
 // The port's side of the differential test: runs a script of operations and answers in octets.
-mod timing;
-
 use script_leaf::headers;
 use script_leaf::identities;
 use script_receiver::Machine;
@@ -156,8 +154,7 @@ fn run_all(script: &[u8], answers: &mut [u8]) -> usize
 }
 
 // The protocol's call; nothing is written to a buffer of length 0.
-#[no_mangle]
-pub extern "C" fn script_run(script: &[u8], answers: &mut [u8]) -> usize
+pub fn script_run(script: &[u8], answers: &mut [u8]) -> usize
     ensures { λ r. ⌜ (r ≤ length (now (answers .entry))) × (drop r (now (answers .exit)) ≡ drop r (now (answers .entry))) ⌝ }
 {
     if answers.len() == 0 {

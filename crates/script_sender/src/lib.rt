@@ -480,13 +480,7 @@ fn run_all(script: &[u8], answers: &mut [u8], octets: &mut [u8], words: &mut [u6
 }
 
 // The protocol's call. Nothing is written to a buffer of length 0, or if the memory is of another size.
-#[no_mangle]
-pub extern "C" fn sender_run(
-    script: &[u8],
-    answers: &mut [u8],
-    octets: &mut [u8],
-    words: &mut [u64],
-) -> usize
+pub fn sender_run(script: &[u8], answers: &mut [u8], octets: &mut [u8], words: &mut [u64]) -> usize
     ensures { λ r. ⌜ r ≤ length (now (answers .entry)) ⌝ }
 {
     if answers.len() == 0 {

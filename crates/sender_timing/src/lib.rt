@@ -85,14 +85,7 @@ fn asks(call: u8, s: Sender, round: u64) -> bool
 // How many rounds did something, of a call on a sender with `live` transfers of 255 octets at block 0: the three cycles, prepare of
 // the frame that was prepared first, advance, refresh_waiting, cancel and contains of a stranger, ready. 0 at once if the
 // lent memory is too small for a sender, or `live` is not 1 to 128.
-#[no_mangle]
-pub extern "C" fn time_sender(
-    call: u8,
-    live: u64,
-    rounds: u64,
-    store: &mut [u8],
-    words: &mut [u64],
-) -> u64 {
+pub fn time_sender(call: u8, live: u64, rounds: u64, store: &mut [u8], words: &mut [u64]) -> u64 {
     if !fits(live, store.len(), words.len()) {
         return 0;
     }

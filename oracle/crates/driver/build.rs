@@ -1,12 +1,10 @@
-//! Links the port, the static libraries that `rt staticlib` writes.
+//! Links the port, the static library that `rt staticlib port` writes. `sender_time` is built by this file too.
 use std::{
     env,
     path::{Path, PathBuf},
 };
 
-const OVERRIDE: &str = "SCRIPT_LIB_DIR";
-/// The crates that export something.
-const LIBRARIES: [&str; 2] = ["script", "script_sender"];
+const OVERRIDE: &str = "PORT_LIB_DIR";
 
 fn main() {
     let here = env::var("CARGO_MANIFEST_DIR").expect("cargo sets it");
@@ -14,16 +12,14 @@ fn main() {
         || Path::new(&here).join("../../../target/staticlib"),
         PathBuf::from,
     );
+    let archive = folder.join("libport.a");
+    assert!(
+        archive.exists(),
+        "{} is missing: run `rt staticlib port` first, or name its folder in {OVERRIDE}",
+        archive.display()
+    );
     println!("cargo::rustc-link-search=native={}", folder.display());
+    println!("cargo::rustc-link-lib=static=port");
     println!("cargo::rerun-if-env-changed={OVERRIDE}");
-    for library in LIBRARIES {
-        let archive = folder.join(format!("lib{library}.a"));
-        assert!(
-            archive.exists(),
-            "{} is missing: run `rt staticlib {library}` first, or name its folder in {OVERRIDE}",
-            archive.display()
-        );
-        println!("cargo::rustc-link-lib=static={library}");
-        println!("cargo::rerun-if-changed={}", archive.display());
-    }
+    println!("cargo::rerun-if-changed={}", archive.display());
 }
