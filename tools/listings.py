@@ -1,7 +1,7 @@
 #!/usr/bin/env python3
 # Stored inputs for the program `listings`, and what it must print for them, by a model of document 01 that shares nothing
-# with the port. Run from the root: writes crates/listings/stdin and crates/listings/stdout, and the listings among the samples of
-# ./arq-show, samples/arq-show/NAME/stdin and stdout.
+# with the port. Run from the root: writes crates/listings/stdin and crates/listings/stdout, and the listings among the
+# samples of ./arq-show, samples/arq-show/NAME/stdin and stdout.
 import pathlib
 import random
 
