@@ -1,6 +1,8 @@
 #!/usr/bin/env python3
 # Stored inputs for the program `listings`, and what it must print for them, by a model of document 01 that shares nothing
-# with the port. Run from the root: writes crates/listings/stdin and crates/listings/stdout.
+# with the port. Run from the root: writes crates/listings/stdin and crates/listings/stdout, and the listings among the
+# samples of ./arq-show, samples/arq-show/NAME/stdin and stdout.
+import pathlib
 import random
 
 WIDTH = [20, 24, 34, 50]
@@ -216,7 +218,28 @@ def inputs():
     yield own + one * 64 + one[:1]
 
 
+def samples():
+    one, own = begin(0, 1, b"A", polling=1), identity(0, 1)
+    text = bytes(range(1, 31))
+    first, *rest = cut(0, 1, text)
+    other = [1 - b for b in pieces(0, text)[0]]
+    yield "document-01", own + one + one[:13] + b"\1"
+    # a Continue before its Begin, a neighbour's frames, one number with other data, repeats, and the Begin again
+    yield "an-order-of-four-frames", own + b"".join([
+        rest[0], first, rest[0], begin(0, 2, text), cont(0, 1, pieces(0, text)[1], echo=6), rest[2], cont(0, 0, other),
+        rest[0], rest[1], rest[2], first,
+    ])
+    yield "a-cut-frame", own + one + one[:13]
+    yield "a-short-identity", own[:8]
+    yield "type-4", identity(4, 1) + one
+
+
 if __name__ == "__main__":
+    for name, octets in samples():
+        folder = pathlib.Path("samples/arq-show") / name
+        folder.mkdir(parents=True, exist_ok=True)
+        (folder / "stdin").write_bytes(octets)
+        (folder / "stdout").write_text(listing(octets))
     stored = list(inputs())
     with open("crates/listings/stdin", "wb") as f:
         f.write(b"".join(len(i).to_bytes(2, "big") + i for i in stored))

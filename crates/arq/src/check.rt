@@ -1,4 +1,5 @@
 // The checks of encode, in document 01's order. The cut makes the first of them too.
+// Ported from link/spach/arq.rs (chrismoos/136-bts 7c60b63bf4, Apache-2.0) and changed: see NOTICE.
 use super::ArqFrame;
 use super::ArqHeader;
 use super::FrameKind;

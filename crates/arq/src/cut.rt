@@ -1,4 +1,5 @@
 // The cut: a message as a Begin and its Continues.
+// Ported from link/spach/arq.rs (chrismoos/136-bts 7c60b63bf4, Apache-2.0) and changed: see NOTICE.
 use super::ArqFrame;
 use super::ArqHeader;
 use super::CountAnswer;

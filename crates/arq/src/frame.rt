@@ -1,4 +1,5 @@
 // Frames as they are given out: unread bits are zero, and so are the fields that only the other kind has.
+// Ported from link/spach/arq.rs (chrismoos/136-bts 7c60b63bf4, Apache-2.0) and changed: see NOTICE.
 use super::ArqFrame;
 use super::ArqHeader;
 use super::FrameAnswer;

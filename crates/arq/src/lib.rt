@@ -1,4 +1,5 @@
 // ArqFrame: encode, cut and decode.
+// Ported from link/spach/arq.rs (chrismoos/136-bts 7c60b63bf4, Apache-2.0) and changed: see NOTICE.
 pub mod check;
 pub mod cut;
 pub mod frame;

@@ -1,4 +1,5 @@
 // Decode, in document 01's order: header A, kind, address, the rest, the data.
+// Ported from link/spach/arq.rs (chrismoos/136-bts 7c60b63bf4, Apache-2.0) and changed: see NOTICE.
 use super::ArqHeader;
 use super::FrameAnswer;
 use super::ResponseMode;

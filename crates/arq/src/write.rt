@@ -1,4 +1,5 @@
 // The frame's parts, each written at its place: header A, header B, a Begin's address, the rest, the data.
+// Ported from link/spach/arq.rs (chrismoos/136-bts 7c60b63bf4, Apache-2.0) and changed: see NOTICE.
 use super::ArqFrame;
 use super::ArqHeader;
 use super::ResponseMode;

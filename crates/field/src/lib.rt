@@ -1,4 +1,5 @@
 // Fields of packed octets: unsigned, top bit first, 1 to 50 bits at any bit offset.
+// Ported from `put` and `take` of link/spach.rs (chrismoos/136-bts 7c60b63bf4, Apache-2.0) and changed: see NOTICE.
 ghost use mathlib.Core.Path.{_≡_};
 ghost use Prim.Native.Nat.{_+_, _-_, _*_, _/_, _%_, _^_, _≤_, _<_, min};
 ghost use lib.ListN.{length, take, drop};

@@ -1,4 +1,5 @@
 // The inactivity timer of a transaction: 32 blocks to an unsolicited status, 32 more to the end.
+// Ported from link/spach/arq/inactivity.rs (chrismoos/136-bts 7c60b63bf4, Apache-2.0) and changed: see NOTICE.
 pub mod lent;
 
 use spach::SpachError;

@@ -10,13 +10,20 @@ ghost use Rattle.io.specs.Counts.{Counts};
 ghost use Rattle.receiver.specs.Valid.{Valid};
 ghost use Rattle.listing.specs.Session.{startOf, Read, Chunk, Chunks};
 
-// What a chunk came to: the session, how many octets are left to read, how many of the chunk are a cut frame, and whether
-// the input may go on.
+// What a chunk came to: the session, how many octets are left to read, how many of the chunk are a cut frame, whether the
+// input may go on, and whether it could not be read on.
 struct Turn {
     pub session: Session,
     pub left: u64,
     pub cut: usize,
     pub more: bool,
+    pub failed: bool,
+}
+
+// How many octets were read, and whether that was cut short by a read that failed.
+struct Got {
+    pub count: usize,
+    pub failed: bool,
 }
 
 fn least(a: u64, b: u64) -> u64
@@ -25,12 +32,33 @@ fn least(a: u64, b: u64) -> u64
     if a < b { a } else { b }
 }
 
-// Reads until the room is full, `left` octets are read or the input ends.
-fn read_some(room: &mut [u8], left: u64) -> usize
-    ensures { λ r. ⌜ Counts r (now (room .exit)) × (r ≤ left) ⌝ }
+// After a short count: one more read answers 0 if the input is at its end. `read_full` does not tell an end from a failure.
+fn not_ended() -> bool {
+    let mut one = [0u8; 1];
+    libc::read(STDIN_FILENO, &mut one) != 0
+}
+
+// Reads until the room is full, `left` octets are read, the input ends or a read fails.
+fn read_some(room: &mut [u8], left: u64) -> Got
+    ensures { λ r. ⌜ Counts (r .count) (now (room .exit)) × (r .count ≤ left) ⌝ }
 {
     let want = least(left, room.len() as u64) as usize;
-    io::read_full(STDIN_FILENO, &mut room[..want])
+    let n = io::read_full(STDIN_FILENO, &mut room[..want]);
+    if n == want {
+        return Got {
+            count: n,
+            failed: false,
+        };
+    }
+    let failed = not_ended();
+    Got {
+        count: n,
+        failed: failed,
+    }
+}
+
+fn say_failed() {
+    io::write_all(STDOUT_FILENO, b"file: standard input: cannot be read\n");
 }
 
 // Reads 64 frames, or what is left, and prints their lines.
@@ -39,7 +67,8 @@ fn show_chunk(session: Session, left: u64) -> Turn
     ensures { λ r. ⌜ Chunk session left (r .session) (r .left) (r .cut) (r .more) × Read (r .session) (r .left) ⌝ }
 {
     let mut input = [0u8; 896];
-    let n = read_some(&mut input, left);
+    let got = read_some(&mut input, left);
+    let n = got.count;
     let mut text = [0u8; 38400];
     let shown = super::show_frames(session, &input[..n], &mut text);
     let end = shown.end;
@@ -50,6 +79,7 @@ fn show_chunk(session: Session, left: u64) -> Turn
         left: left - n as u64,
         cut: n % 14,
         more: n == 896,
+        failed: got.failed,
     }
 }
 
@@ -67,6 +97,7 @@ fn show_chunks(receiver: ArqReassembler, limit: u64) -> Turn
         left: limit,
         cut: 0,
         more: true,
+        failed: false,
     };
     while t.more {
         let session = t.session;
@@ -75,12 +106,16 @@ fn show_chunks(receiver: ArqReassembler, limit: u64) -> Turn
     t
 }
 
-// Prints the lines after the header.
+// Prints the lines after the header. A listing that could not be read to its end says so in place of its last lines.
 fn show_all(receiver: ArqReassembler, limit: u64) -> u64
     requires { ⌜ Valid receiver ⌝ }
     ensures { λ r. ⌜ r ≤ limit ⌝ }
 {
     let t = show_chunks(receiver, limit);
+    if t.failed {
+        say_failed();
+        return t.left;
+    }
     let mut text = [0u8; 55];
     let session = t.session;
     let end = put_last(&mut text, session, t.cut as u64);
@@ -93,9 +128,14 @@ pub fn show(limit: u64) -> u64
     ensures { λ r. ⌜ r ≤ limit ⌝ }
 {
     let mut octets = [0u8; 9];
-    let n = read_some(&mut octets, limit);
-    let made = super::open(&octets[..n]);
+    let got = read_some(&mut octets, limit);
+    let n = got.count;
     let left = limit - n as u64;
+    if got.failed {
+        say_failed();
+        return left;
+    }
+    let made = super::open(&octets[..n]);
     let verdict = made.verdict;
     if let Verdict::Refused(_) = verdict {
         io::write_all(STDOUT_FILENO, b"identity\n");
@@ -110,9 +150,9 @@ pub fn show(limit: u64) -> u64
 pub fn skip(left: u64) {
     let mut rest = left;
     let mut room = [0u8; 64];
-    let mut n = read_some(&mut room, rest);
+    let mut n = read_some(&mut room, rest).count;
     while n > 0 {
         rest -= n as u64;
-        n = read_some(&mut room, rest);
+        n = read_some(&mut room, rest).count;
     }
 }

@@ -1,4 +1,5 @@
 // The receive procedure: a receiver and its inactivity timer.
+// Ported from link/spach/arq/procedure.rs (chrismoos/136-bts 7c60b63bf4, Apache-2.0) and changed: see NOTICE.
 pub mod receive;
 pub mod status;
 pub mod timer;

@@ -1,4 +1,5 @@
 // A frame received: what the receiver makes of it, and what that means for the timer.
+// Ported from link/spach/arq/procedure.rs (chrismoos/136-bts 7c60b63bf4, Apache-2.0) and changed: see NOTICE.
 use super::ArqProcedure;
 use super::ReceiveAnswer;
 use super::ReceiveEvent;

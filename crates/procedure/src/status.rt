@@ -1,4 +1,5 @@
 // The result of a status that was to be sent.
+// Ported from link/spach/arq/procedure.rs (chrismoos/136-bts 7c60b63bf4, Apache-2.0) and changed: see NOTICE.
 use super::ArqProcedure;
 use super::SendAnswer;
 use super::SendEvent;

@@ -1,4 +1,5 @@
 // What is due: an unsolicited status, or the end.
+// Ported from link/spach/arq/procedure.rs (chrismoos/136-bts 7c60b63bf4, Apache-2.0) and changed: see NOTICE.
 use super::Advanced;
 use super::ArqProcedure;
 use super::StatusKind;

@@ -1,4 +1,5 @@
 // Identities of mobile stations as the air interface packs them, and their parts.
+// Ported from link/rach.rs (chrismoos/136-bts 7c60b63bf4, Apache-2.0) and changed: see NOTICE.
 ghost use mathlib.Core.Path.{_≡_};
 ghost use Prim.Native.Nat.{_^_, _<_, _≤_};
 ghost use Rattle.rach.specs.Identity.{widthOf, inRange, partsOf, identityOf, same, encodable};

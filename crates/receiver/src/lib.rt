@@ -1,4 +1,5 @@
 // ArqReassembler: frames of one transfer put together again.
+// Ported from link/spach/arq/receiver.rs (chrismoos/136-bts 7c60b63bf4, Apache-2.0) and changed: see NOTICE.
 pub mod message;
 pub mod push;
 pub mod slot;

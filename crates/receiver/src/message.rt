@@ -1,4 +1,5 @@
 // The message of a complete transaction, put together from the Begin's data and the slots.
+// Ported from link/spach/arq/receiver.rs (chrismoos/136-bts 7c60b63bf4, Apache-2.0) and changed: see NOTICE.
 use super::ArqReassembler;
 use super::SingleMessage;
 use super::state;

@@ -1,4 +1,5 @@
 // What a push makes of the frame that it heard.
+// Ported from link/spach/arq/receiver.rs (chrismoos/136-bts 7c60b63bf4, Apache-2.0) and changed: see NOTICE.
 use super::ArqReassembler;
 use super::Delivery;
 use super::PushAnswer;

@@ -1,4 +1,5 @@
 // The slots: 26 of ten octets each, in one array.
+// Ported from link/spach/arq/receiver.rs (chrismoos/136-bts 7c60b63bf4, Apache-2.0) and changed: see NOTICE.
 ghost use mathlib.Core.Path.{_≡_};
 ghost use Prim.Native.Nat.{_<_};
 ghost use Rattle.receiver.specs.Receiver.{slotAt, putSlot, sameOctets};

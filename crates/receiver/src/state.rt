@@ -1,4 +1,5 @@
 // The receiver's states: fresh, begun by a Begin, with a Continue stored, delivered.
+// Ported from link/spach/arq/receiver.rs (chrismoos/136-bts 7c60b63bf4, Apache-2.0) and changed: see NOTICE.
 use super::ArqReassembler;
 use super::ArqStatus;
 use super::Request;

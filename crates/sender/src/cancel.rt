@@ -1,4 +1,5 @@
 // Transfers cancelled, and the oldest event taken.
+// Ported from runtime/spach_arq.rs (chrismoos/136-bts 7c60b63bf4, Apache-2.0) and changed: see NOTICE.
 use super::Cancelled;
 use super::EventSlot;
 use super::Sender;

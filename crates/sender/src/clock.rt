@@ -1,4 +1,5 @@
 // What every call with a clock asks first.
+// Ported from runtime/spach_arq.rs (chrismoos/136-bts 7c60b63bf4, Apache-2.0) and changed: see NOTICE.
 use super::Verdict;
 use spach::SpachError;
 use token::fewer_than;

@@ -1,4 +1,5 @@
 // A request granted or refused, and what it leaves if it is granted.
+// Ported from runtime/spach_arq.rs (chrismoos/136-bts 7c60b63bf4, Apache-2.0) and changed: see NOTICE.
 use super::EnqueueAnswer;
 use super::Enqueued;
 use super::GrantAnswer;

@@ -1,4 +1,5 @@
 // Which frame goes out next, and that frame made.
+// Ported from runtime/spach_arq.rs (chrismoos/136-bts 7c60b63bf4, Apache-2.0) and changed: see NOTICE.
 use super::Prepared;
 use super::Selection;
 use super::Sender;

@@ -1,4 +1,5 @@
 // Waiting transfers queued again, and the oldest of those that are ready served first.
+// Ported from runtime/spach_arq.rs (chrismoos/136-bts 7c60b63bf4, Apache-2.0) and changed: see NOTICE.
 use super::Sender;
 use super::table::moved_to_front;
 use transfer::effects::age_of;

@@ -1,4 +1,5 @@
 // What a status shows of a transfer.
+// Ported from runtime/spach_arq.rs (chrismoos/136-bts 7c60b63bf4, Apache-2.0) and changed: see NOTICE.
 use super::FoundAnswer;
 use super::Sender;
 use super::Sought;

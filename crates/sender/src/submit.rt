@@ -1,4 +1,5 @@
 // A frame handed in, and a frame confirmed.
+// Ported from runtime/spach_arq.rs (chrismoos/136-bts 7c60b63bf4, Apache-2.0) and changed: see NOTICE.
 use super::ConfirmationAnswer;
 use super::Confirmed;
 use super::Moved;

@@ -1,4 +1,5 @@
 // What every SPACH frame has: refusals, channel and flags, header A and the address, and the cursor that reads them.
+// Ported from link/spach.rs (chrismoos/136-bts 7c60b63bf4, Apache-2.0) and changed: see NOTICE.
 use rach::MobileIdentity;
 ghost use mathlib.Core.Path.{_≡_};
 ghost use Prim.Native.Nat.{_+_, _^_, _<_};

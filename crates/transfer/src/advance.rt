@@ -1,4 +1,5 @@
 // What becomes of a transfer in `advance`.
+// Ported from runtime/spach_arq.rs (chrismoos/136-bts 7c60b63bf4, Apache-2.0) and changed: see NOTICE.
 use super::Event;
 use super::Fate;
 use super::Transfer;

@@ -1,4 +1,5 @@
 // The search for a free echo: a hold outlives its transfer, so the times are searched and not the transfers.
+// Ported from runtime/spach_arq.rs (chrismoos/136-bts 7c60b63bf4, Apache-2.0) and changed: see NOTICE.
 use super::FreeEcho;
 ghost use mathlib.Core.Path.{_≡_};
 ghost use Prim.Native.Nat.{_<_};

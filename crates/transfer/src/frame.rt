@@ -1,4 +1,5 @@
 // The frames of a transfer's message, under its present echo.
+// Ported from runtime/spach_arq.rs (chrismoos/136-bts 7c60b63bf4, Apache-2.0) and changed: see NOTICE.
 use super::Transfer;
 use arq::ArqHeader;
 use arq::Encoded;

@@ -1,4 +1,5 @@
 // Sets of frames, each a number: bit k is frame k's.
+// Ported from runtime/spach_arq.rs (chrismoos/136-bts 7c60b63bf4, Apache-2.0) and changed: see NOTICE.
 ghost use mathlib.Core.Path.{_≡_};
 ghost use Prim.Native.Nat.{_≤_, _<_};
 ghost use Rattle.transfer.specs.Queue as sets;

@@ -1,4 +1,5 @@
 // A transfer by itself: when it is done, how it settles, when it restarts and how it begins.
+// Ported from runtime/spach_arq.rs (chrismoos/136-bts 7c60b63bf4, Apache-2.0) and changed: see NOTICE.
 use super::Blocks;
 use super::Generation;
 use super::Parcel;

@@ -1,12 +1,22 @@
 -- `listing::show::read_some` meets its contract. Assumes nothing.
 use mathlib.Core.Path.{_≡_, sym}
+use mathlib.Core.List.{List, _++_}
+use Prim.Native.Nat.{ℕ, _≤_}
 use native.Mathlib.Omega.{arith}
 use lib.ListN.{length, take, length-append}
 use lib.Seq.{length-take-le}
+use Rattle.io.specs.Counts.{Counts}
 use Rattle.io.proofs.Counting.{counts}
 use borrow.Author.Needs.{needs}
 use Rattle.listing.proofs.show.read_some.Statement.{statement}
 use Rattle.listing.proofs.show.read_some.Tie as tie
+
+-- what was read lies within the room, and is no more than was wanted
+within : (n left want : ℕ) (room got rest : List ℕ) → length got ≡ length (take want room) → (want ≤ left) × (want ≤ length room)
+    → n ≤ length got → Counts n (got ++ rest) × (n ≤ left)
+within n left want room got rest size most m =
+    let part = length-take-le want room (most .1) in
+    (counts _ _ (simp length-append (omega (arith, m))), omega (arith, size, part, m, most .0))
 
 least-requires : tie.Need-least-requires
 least-requires c κs = search needs
@@ -26,12 +36,25 @@ same-length c = search needs
 
 returns : tie.Need-returns
 returns c =
-    let a = c .before .before .before .before .before .before .args in
-    let want = c .before .before .before .before .least in
-    let got = c .before .before .read-full in
+    let a = c .before .before .before .before .before .before .before .args in
+    let want = c .before .before .before .before .before .least in
+    let got = c .before .before .before .read-full in
     let size : length (got .last .1 .0) ≡ length (take (want .result) (a .room .now)) = search needs in
-    let part = length-take-le (want .result) (a .room .now) (omega (arith, want .ensures .1)) in
-    (counts _ _ (simp length-append (omega (arith, got .ensures .0))), omega (arith, got .ensures .0, want .ensures .0))
+    within _ _ (want .result) (a .room .now) (got .last .1 .0) _ size (want .ensures) (got .ensures .0)
+
+not-ended-requires : tie.Need-not-ended-requires
+not-ended-requires c κs = search needs
+
+same-length-2 : tie.Need-same-length-2
+same-length-2 c = search needs
+
+returns-2 : tie.Need-returns-2
+returns-2 c =
+    let a = c .before .before .before .before .before .before .before .before .args in
+    let want = c .before .before .before .before .before .before .least in
+    let got = c .before .before .before .before .read-full in
+    let size : length (got .last .1 .0) ≡ length (take (want .result) (a .room .now)) = search needs in
+    within _ _ (want .result) (a .room .now) (got .last .1 .0) _ size (want .ensures) (got .ensures .0)
 
 pub read-some-spec : {M : Type 1} → statement M
 read-some-spec =
@@ -42,4 +65,7 @@ read-some-spec =
     slice-aggregate-read-full
     read-full-requires
     same-length
-    returns)
+    returns
+    not-ended-requires
+    same-length-2
+    returns-2)

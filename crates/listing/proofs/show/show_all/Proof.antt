@@ -7,6 +7,12 @@ use Rattle.listing.proofs.show.show_all.Tie as tie
 show-chunks-requires : tie.Need-show-chunks-requires
 show-chunks-requires c κs = c .pre
 
+say-failed-requires : tie.Need-say-failed-requires
+say-failed-requires c κs = tt
+
+returns : tie.Need-returns
+returns c = omega (arith, c .before .before .show-chunks .ensures .left)
+
 slice-aggregate-put-last : tie.Need-slice-aggregate-put-last
 slice-aggregate-put-last c = refl
 
@@ -22,17 +28,19 @@ slice-aggregate-write-all c = c .before .before .put-last .ensures .1 .1
 write-all-requires : tie.Need-write-all-requires
 write-all-requires c κs = tt
 
-returns : tie.Need-returns
-returns c = omega (arith, c .before .before .before .before .before .before .show-chunks .ensures .left)
+returns-2 : tie.Need-returns-2
+returns-2 c = omega (arith, c .before .before .before .before .before .before .before .show-chunks .ensures .left)
 
 pub show-all-spec : {M : Type 1} → statement M
 show-all-spec =
     tie.close
     (tie.spec
     show-chunks-requires
+    say-failed-requires
+    returns
     slice-aggregate-put-last
     put-last-requires
     array-share-prefix-text
     slice-aggregate-write-all
     write-all-requires
-    returns)
+    returns-2)

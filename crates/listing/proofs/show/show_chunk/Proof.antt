@@ -36,14 +36,14 @@ slice-aggregate-write-all c = search needs
 write-all-requires : tie.Need-write-all-requires
 write-all-requires c κs = search needs
 
-sub-t19 : tie.Need-sub-t19
-sub-t19 c = search needs
+sub-t20 : tie.Need-sub-t20
+sub-t20 c = search needs
 
 returns : tie.Need-returns
 returns c =
     let s = c .before .before .before .before .before .before .before .before .before .before in
     let read = c .before .before .before .before .before .before .before .before .read-some in
-    let n = read .result in
+    let n = read .result .count in
     let size : length (read .last .0) ≡ 896 = search needs in
     let shown = c .before .before .before .before .show-frames in (
       record {
@@ -70,5 +70,5 @@ show-chunk-spec =
     array-share-prefix-text
     slice-aggregate-write-all
     write-all-requires
-    sub-t19
+    sub-t20
     returns)
