@@ -5,27 +5,27 @@ use mathlib.Core.Logic.{_≢_, _⊎_, inl, inr, ⊎-elim, _↔_}
 use mathlib.Core.Bool.{Bool, true, false, cond, not, _&&_, _||_}
 use mathlib.Core.List.{List, [], _∷_, map}
 use mathlib.Core.Option.{Option, none, some}
-use Prim.Native.Nat.{ℕ, zero, suc, _+_, _-_, _≤_, _<_, _%_, _^_}
+use Prim.Native.Nat.{ℕ, zero, suc, _+_, _-_, _≤_, _<_, _^_}
 use native.Mathlib.Nat.{two-pow-succ}
 use native.Mathlib.Omega.{arith}
 use lib.Dec.{eqb, leb, ltb}
 use lib.ListN.{length, getD}
 use lib.Pow.{pow-pos}
-use borrow.Author.Tests.{eqb-true, eqb-false, eq-eqb, ne-eqb, lt-ltb, le-ltb, ltb-true, ltb-false, leb-true, leb-false, le-leb, lt-leb, not-true, not-false}
+use borrow.Author.Tests.{eqb-true, eqb-false, eq-eqb, ne-eqb, lt-ltb, le-ltb, ltb-true, ltb-false, leb-true, leb-false, le-leb, not-true}
 use Rattle.rach.specs.declared.MobileIdentity.{MobileIdentity}
 use Rattle.rach.proofs.Laws.{same-self, same-equal}
-use Rattle.spach.specs.Refusal.{Outcome, gives, After}
-use Rattle.receiver.specs.Map.{bitOf}
-use Rattle.receiver.proofs.Maps.{compared}
+use Rattle.spach.specs.Refusal.{gives, After}
 use Rattle.receiver.proofs.Ways.{by-bool, true-false, pick-true, pick-false}
+use Rattle.transfer.specs.declared.Parcel.{Parcel}
 use Rattle.transfer.specs.declared.Since.{Since}
 use Rattle.transfer.specs.declared.Since.the-variants.{Never, Block}
 use Rattle.transfer.specs.declared.Transfer.{Transfer}
 use Rattle.transfer.specs.declared.PreparedFrame.{PreparedFrame}
-use Rattle.transfer.specs.Lists.{position, any, removeAt}
-use Rattle.transfer.specs.Queue.{isEmpty, has, continuesOf, frameAlone}
+use Rattle.transfer.specs.Lists.{position, any, removeAt, pushBack}
+use Rattle.transfer.specs.Queue.{isEmpty, has, firstFrames, continuesOf, frameAlone}
 use Rattle.transfer.specs.State.{View, withTransfers, withSelected, says, blankTransfer, ofEcho}
-use Rattle.transfer.specs.Transfer.{passed, isSet, idle, lastQueued, doneOf, requeued, waits, settleOf, restartDue}
+use Rattle.transfer.specs.Transfer.{passed, isSet, orFrom, idle, lastQueued, doneOf, requeued, waits, settleOf, restartDue, begun}
+use Rattle.transfer.specs.Advance.{restart}
 use Rattle.transfer.specs.Echo.{free}
 use Rattle.transfer.specs.Enqueue.{addressed, lowestFrom, lowestN}
 use Rattle.transfer.specs.Prepare.{isReady, choose, hasEchoOf, repeated, onlyEcho, prioritized, prioritizeAt}
@@ -34,7 +34,7 @@ use Rattle.transfer.specs.Refresh.{refreshed, blocksSince, ageOf, oldest
 use Rattle.transfer.specs.Queries.{canEnqueueOf, radioActiveOf, readyOf, containsOf}
 use Rattle.transfer.specs.Invariant.{All, Some, Sound}
 use Rattle.transfer.proofs.Bitsets.{bit-none, bit-first, below-bits, bit-has, bit-lacks, has-alone, has-added, has-without}
-use Rattle.transfer.proofs.Frames.{bit-continue}
+use Rattle.transfer.proofs.Frames.{bit-firsts, bit-continue}
 use Rattle.transfer.proofs.Listed.{all-head, some-map, some-all, any-true, any-false}
 use Rattle.transfer.proofs.Kept.{lowest-free}
 use Rattle.transfer.proofs.Calls.{prioritized-kept}
@@ -91,6 +91,40 @@ requeues-exactly block x q f d s k =
     let n : (not (idle x) || doneOf x) ≡ false = rw (i, d) refl in
     ap (λ (y : Transfer). has (y .sets .queue) k) (pick-false x (cond (x .sets .«received_status») (requeued x) (waits block x)) n ∙ pick-true (requeued x) (waits block x) s)
     ∙ (has-without (continuesOf (x .parcel .frames)) (x .sets .observed) k ∙ ap (λ (t : Bool). t && not (has (x .sets .observed) k)) (has-continues (x .parcel .frames) k))
+
+-- without a status it waits, from this block on unless it does so already, and nothing else is another
+pub waits-exactly : (block : ℕ) (x : Transfer) → x .sets .queue ≡ 0 → x .sets .«in_flight» ≡ 0 → x .sets .«received_status» ≡ false → let y = settleOf block x in
+    (y .sets ≡ x .sets) × (y .blocks .«last_progress» ≡ x .blocks .«last_progress») × (y .blocks .«last_frame» ≡ x .blocks .«last_frame»)
+    × (((x .blocks .«waiting_since» ≡ Never) × (y .blocks .«waiting_since» ≡ Block block)) ⊎ ((b : ℕ) × (x .blocks .«waiting_since» ≡ Block b) × (y .blocks .«waiting_since» ≡ Block b)))
+unfolding settleOf doneOf
+waits-exactly block x q f s =
+    let i : idle x ≡ true = rw (q, f) refl in
+    let d : (not (idle x) || doneOf x) ≡ false = rw (i, s) refl in
+    let e : settleOf block x ≡ waits block x = pick-false x (cond (x .sets .«received_status») (requeued x) (waits block x)) d ∙ pick-false (requeued x) (waits block x) s in
+    (ap (λ (y : Transfer). y .sets) e, ap (λ (y : Transfer). y .blocks .«last_progress») e, ap (λ (y : Transfer). y .blocks .«last_frame») e, go (x .blocks .«waiting_since») (ap (λ (y : Transfer). y .blocks .«waiting_since») e))
+  where
+    go : (w : Since) {n : Since} → n ≡ orFrom block w → ((w ≡ Never) × (n ≡ Block block)) ⊎ ((b : ℕ) × (w ≡ Block b) × (n ≡ Block b))
+    go Never e = inl (refl, e)
+    go (Block b) e = inr (b, refl, e)
+
+-- ---- a transfer begins, and begins again
+
+has-firsts : (n k : ℕ) → has (firstFrames n) k ≡ ltb k n
+has-firsts n k = go (ltb k n) refl
+  where
+    go : (t : Bool) → ltb k n ≡ t → has (firstFrames n) k ≡ t
+    go true e = bit-has (firstFrames n) k (bit-firsts n k (ltb-true k n e))
+    go false e = bit-lacks (firstFrames n) k (below-bits n (firstFrames n) k (omega (arith, pow-pos n)) (ltb-false k n e))
+
+-- every frame is queued, and nothing is left of before: so an age counts from a frame under the present echo
+pub begins-exactly : (p : Parcel) (echo generation : ℕ) → let y = begun p echo generation in
+    ((k : ℕ) → has (y .sets .queue) k ≡ ltb k (p .frames)) × (y .sets .«in_flight» ≡ 0) × (y .sets .transmitted ≡ 0) × (y .sets .observed ≡ 0) × (y .sets .«received_status» ≡ false)
+    × (y .blocks .«last_progress» ≡ Never) × (y .blocks .«last_frame» ≡ Never) × (y .blocks .«waiting_since» ≡ Never)
+begins-exactly p echo generation = (has-firsts (p .frames), refl, refl, refl, refl, refl, refl, refl)
+
+-- a restart with a free echo leaves exactly that, behind those before it in the list
+pub restarts-exactly : (v : View) (x : Transfer) (echo : ℕ) → restart v x (some echo) .transfers ≡ pushBack (v .transfers) (begun (x .parcel) echo (v .«next_token»))
+restarts-exactly v x echo = refl
 
 -- ---- the last frame queued again
 
