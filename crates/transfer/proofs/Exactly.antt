@@ -3,39 +3,41 @@
 use mathlib.Core.Path.{_≡_, refl, sym, ap, subst, _∙_}
 use mathlib.Core.Logic.{_≢_, _⊎_, inl, inr, ⊎-elim, _↔_}
 use mathlib.Core.Bool.{Bool, true, false, cond, not, _&&_, _||_}
-use mathlib.Core.List.{List, [], _∷_, map}
+use mathlib.Core.List.{List, [], _∷_, _++_, map}
 use mathlib.Core.Option.{Option, none, some}
 use Prim.Native.Nat.{ℕ, zero, suc, _+_, _-_, _≤_, _<_, _^_}
 use native.Mathlib.Nat.{two-pow-succ}
 use native.Mathlib.Omega.{arith}
 use lib.Dec.{eqb, leb, ltb}
-use lib.ListN.{length, getD}
+use lib.ListN.{length, take, drop, getD}
 use lib.Pow.{pow-pos}
-use borrow.Author.Tests.{eqb-true, eqb-false, eq-eqb, ne-eqb, lt-ltb, le-ltb, ltb-true, ltb-false, leb-true, leb-false, le-leb, not-true}
+use borrow.Author.Tests.{eqb-true, eqb-false, eq-eqb, ne-eqb, lt-ltb, le-ltb, ltb-true, ltb-false, leb-true, leb-false, le-leb, not-true, not-false}
 use Rattle.rach.specs.declared.MobileIdentity.{MobileIdentity}
 use Rattle.rach.proofs.Laws.{same-self, same-equal}
-use Rattle.spach.specs.Refusal.{gives, After}
+use Rattle.spach.specs.Refusal.{Outcome, gives, refuses, After}
+use Rattle.receiver.proofs.Maps.{compared}
 use Rattle.receiver.proofs.Ways.{by-bool, true-false, pick-true, pick-false}
+use Rattle.arq.specs.declared.PackedFrame.{PackedFrame}
 use Rattle.transfer.specs.declared.Parcel.{Parcel}
 use Rattle.transfer.specs.declared.Since.{Since}
 use Rattle.transfer.specs.declared.Since.the-variants.{Never, Block}
 use Rattle.transfer.specs.declared.Transfer.{Transfer}
 use Rattle.transfer.specs.declared.PreparedFrame.{PreparedFrame}
 use Rattle.transfer.specs.Lists.{position, any, removeAt, pushBack}
-use Rattle.transfer.specs.Queue.{isEmpty, has, firstFrames, continuesOf, frameAlone}
+use Rattle.transfer.specs.Queue.{isEmpty, has, firstFrames, continuesOf, frameAlone, front}
 use Rattle.transfer.specs.State.{View, withTransfers, withSelected, says, blankTransfer, ofEcho}
 use Rattle.transfer.specs.Transfer.{passed, isSet, orFrom, idle, lastQueued, doneOf, requeued, waits, settleOf, restartDue, begun}
 use Rattle.transfer.specs.Advance.{restart}
 use Rattle.transfer.specs.Echo.{free}
 use Rattle.transfer.specs.Enqueue.{addressed, lowestFrom, lowestN}
-use Rattle.transfer.specs.Prepare.{isReady, choose, hasEchoOf, repeated, onlyEcho, prioritized, prioritizeAt}
+use Rattle.transfer.specs.Prepare.{isReady, frontOf, preparedOf, selects, chooseFrom, choose, hasEchoOf, repeated, onlyEcho, prioritized, prioritizeAt}
 use Rattle.transfer.specs.Submitted.{inFlight, confirmFrame}
-use Rattle.transfer.specs.Refresh.{refreshed, blocksSince, ageOf, oldestFrom, oldest}
+use Rattle.transfer.specs.Refresh.{refreshed, blocksSince, ageOf, oldestFrom, oldest, toFront, oldestFirst, serveOldest}
 use Rattle.transfer.specs.Queries.{canEnqueueOf, radioActiveOf, readyOf, containsOf}
 use Rattle.transfer.specs.Invariant.{All, Some, Sound}
 use Rattle.transfer.proofs.Bitsets.{bit-none, bit-first, below-bits, bit-has, bit-lacks, has-alone, has-added, has-without}
 use Rattle.transfer.proofs.Frames.{bit-firsts, bit-continue}
-use Rattle.transfer.proofs.Listed.{all-head, some-map, some-all, any-true, any-false}
+use Rattle.transfer.proofs.Listed.{all-head, some-map, some-all, any-true, any-false, position-found, position-before}
 use Rattle.transfer.proofs.Kept.{lowest-free}
 use Rattle.transfer.proofs.Calls.{prioritized-kept}
 use Rattle.transfer.proofs.Remarks.{choose-none-exactly}
@@ -298,6 +300,73 @@ oldest-exactly block l = ⊎-elim (λ h. inr (h .0, young h)) (λ h. inl (subst 
       most = λ j a lt k. let e = aged-age block (getD l j blankTransfer) a k in let y = h .4 j lt in omega arith;
       last = λ j a p lt k. let e = aged-age block (getD l j blankTransfer) a k in let y = h .5 j p lt in omega arith;
     }
+
+-- there is but one such place
+eldest-one : (block : ℕ) (l : List Transfer) (i j : ℕ) → Eldest block l i → Eldest block l j → i ≡ j
+eldest-one block l i j a b = ⊎-elim (λ lt. absurd (apart i j a b lt)) (⊎-elim (λ e. e) (λ lt. absurd (apart j i b a lt))) (compared i j)
+  where
+    apart : (p q : ℕ) → Eldest block l p → Eldest block l q → p < q → ⊥
+    apart p q g h lt =
+        let m = g .last q (h .age) lt (h .inside) (h .aged) in
+        let n = h .most p (g .age) (g .inside) (g .aged) in
+        omega arith
+
+-- if no frame is selected, the transfer there goes to the front, and the others keep their order
+pub serves-exactly : (v : View) (i : ℕ) → v .selected ≡ none → let l = v .transfers in Eldest (v .clock .«last_block») l i → serveOldest v .transfers ≡ getD l i blankTransfer ∷ (take i l ++ drop (suc i) l)
+unfolding serveOldest
+serves-exactly v i s h =
+    let l = v .transfers in
+    let block = v .clock .«last_block» in
+    let e : oldest block l ≡ i = ⊎-elim (λ k. eldest-one block l (oldest block l) i k h) (λ k. absurd (k .1 i (h .age) (h .inside) (h .aged))) (oldest-exactly block l) in
+    ap (λ (o : Option PreparedFrame). oldestFirst v o .transfers) s ∙ (ap (λ (p : ℕ). toFront p l) e ∙ pick-true (getD l i blankTransfer ∷ removeAt i l) l (lt-ltb i (length l) (h .inside)))
+
+-- ---- prepare
+
+-- the frame of an answer, another where there is none
+abbrev frameTold : PreparedFrame → Outcome (Option PreparedFrame) → PreparedFrame
+frameTold d (gives (some f)) = f
+frameTold d (gives none) = d
+frameTold d (refuses n) = d
+
+-- the frame is the front of a transfer's queue, under its generation and echo
+pub record FrontOf (x : Transfer) (f : PreparedFrame) : Type 0 where
+  pub queued : x .sets .queue ≢ 0
+  pub generation : f .token .generation ≡ x .generation
+  pub echo : f .«partial_echo» ≡ x .echo
+  pub frame : f .token .frame ≡ front (x .sets .queue)
+
+selects-front : (v : View) (x : Transfer) (o : Outcome PackedFrame) (f : PreparedFrame) → isReady x ≡ true → selects v x o .outcome ≡ gives (some f) → FrontOf x f
+selects-front v x (gives p) f r e =
+    let q : preparedOf x p (v .«next_token») ≡ f = ap (frameTold f) e in
+    record {
+      queued = eqb-false (x .sets .queue) 0 (not-true (eqb (x .sets .queue) 0) r);
+      generation = sym (ap (λ (g : PreparedFrame). g .token .generation) q);
+      echo = sym (ap (λ (g : PreparedFrame). g .«partial_echo») q);
+      frame = sym (ap (λ (g : PreparedFrame). g .token .frame) q);
+    }
+selects-front v x (refuses n) f r e = let z : _≡_ {A = ℕ} 0 1 = cc in absurd (omega arith)
+
+-- if none is selected, it is that of the first transfer in the list that has a frame queued
+pub serves-first : (v : View) (octets : List ℕ) (f : PreparedFrame) → v .selected ≡ none → choose v octets .outcome ≡ gives (some f)
+    → (i : ℕ) × (i < length (v .transfers)) × FrontOf (getD (v .transfers) i blankTransfer) f × ((j : ℕ) → j < i → getD (v .transfers) j blankTransfer .sets .queue ≡ 0)
+unfolding choose
+serves-first v octets f s e =
+    let q : chooseFrom v octets none .outcome ≡ gives (some f) = sym (ap (λ (o : Option PreparedFrame). chooseFrom v octets o .outcome) s) ∙ e in
+    go (ltb (position isReady (v .transfers)) (length (v .transfers))) refl q
+  where
+    First : Type 0
+    First = (i : ℕ) × (i < length (v .transfers)) × FrontOf (getD (v .transfers) i blankTransfer) f × ((j : ℕ) → j < i → getD (v .transfers) j blankTransfer .sets .queue ≡ 0)
+
+    here : ℕ
+    here = position isReady (v .transfers)
+
+    go : (t : Bool) → ltb (position isReady (v .transfers)) (length (v .transfers)) ≡ t
+        → (cond t (selects v (getD (v .transfers) (position isReady (v .transfers)) blankTransfer) (frontOf (getD (v .transfers) (position isReady (v .transfers)) blankTransfer) octets)) (says none v)) .outcome ≡ gives (some f) → First
+    go true l q =
+        let x = getD (v .transfers) here blankTransfer in
+        let lt = ltb-true here (length (v .transfers)) l in
+        (here, lt, selects-front v x (frontOf x octets) f (position-found isReady blankTransfer (v .transfers) lt) q, λ j m. eqb-true (getD (v .transfers) j blankTransfer .sets .queue) 0 (not-false _ (position-before isReady blankTransfer (v .transfers) j m)))
+    go false l q = let z : _≡_ {A = ℕ} 0 1 = cc in absurd (omega arith)
 
 -- ---- prepare_prioritized
 
