@@ -14,7 +14,7 @@ use lib.Seq.{drop-cons, getD-drop, getD-take, getD-append-add, getD-set-same, ge
 use Rattle.transfer.specs.Lists.{position}
 use Rattle.transfer.specs.State.{Echoes}
 use Rattle.transfer.specs.Echo.{free, around, freeEcho, hold}
-use Rattle.transfer.proofs.Listed.{all-at, position-none, position-found}
+use Rattle.transfer.proofs.Listed.{all-at, position-none, position-found, position-before}
 
 -- a search that has come to i: what it gives from the start
 module _ {A : Type 0} (p : A → Bool) (l : List A) (d : A) where
@@ -115,6 +115,29 @@ module _ (e : Echoes) (long : length (e .«echo_until_ms») ≡ 128) where
             let r : (e .«next_echo» + offset) % 128 ≡ echo = cc in
             let f = found (ltb-true _ _ t) in
             (omega arith, rw r at f)
+        go false t q = absurd (some-none (sym q))
+
+    -- no echo nearer to `next_echo`, going round, is free
+    nearer-held : (nearer : ℕ) → nearer < offset → nearer < 128 → now < getD (e .«echo_until_ms») ((e .«next_echo» + nearer) % 128) 0
+    nearer-held nearer m h =
+        let at = around-at (e .«echo_until_ms») (e .«next_echo») long low nearer h in
+        leb-false _ _ (ap (free now) (sym at) ∙ position-before (free now) 0 (around e) nearer m)
+
+    -- the echo that is taken is the free one at the least distance from `next_echo`, upwards and going round
+    pub free-least : {echo : ℕ} → freeEcho e now ≡ some echo
+        → (distance : ℕ) × (distance < 128) × (echo ≡ (e .«next_echo» + distance) % 128) × (getD (e .«echo_until_ms») echo 0 ≤ now)
+        × ((nearer : ℕ) → nearer < distance → now < getD (e .«echo_until_ms») ((e .«next_echo» + nearer) % 128) 0)
+    unfolding freeEcho
+    free-least {echo} q = go (ltb offset 128) refl q
+      where
+        go : (b : Bool) → ltb offset 128 ≡ b → cond b (some ((e .«next_echo» + offset) % 128)) none ≡ some echo
+            → (distance : ℕ) × (distance < 128) × (echo ≡ (e .«next_echo» + distance) % 128) × (getD (e .«echo_until_ms») echo 0 ≤ now)
+            × ((nearer : ℕ) → nearer < distance → now < getD (e .«echo_until_ms») ((e .«next_echo» + nearer) % 128) 0)
+        go true t q =
+            let r : (e .«next_echo» + offset) % 128 ≡ echo = cc in
+            let h : offset < 128 = ltb-true _ _ t in
+            let f = found h in
+            (offset, h, sym r, rw r at f, λ nearer m. nearer-held nearer m (omega arith))
         go false t q = absurd (some-none (sym q))
 
     -- none is free exactly if every echo is held until later

@@ -1,7 +1,7 @@
 -- Sets of frames as numbers, said bit by bit: what each operation does to bit k, and that the bits are the set. Assumes nothing.
 use mathlib.Core.Path.{_≡_, refl, sym, ap, _∙_}
 use mathlib.Core.Logic.{⊎-elim}
-use mathlib.Core.Bool.{Bool, true, false, _&&_, _||_}
+use mathlib.Core.Bool.{Bool, true, false, not, _&&_, _||_}
 use Prim.Native.Nat.{ℕ, zero, suc, _+_, _-_, _*_, _/_, _%_, _^_, _≤_, _<_, min, max}
 use native.Mathlib.Nat.{zero-div, pow-suc, div-eq-of-lt, one-mul, mul-mod-left, pow-succ', div-div-eq-div-mul, div-one}
 use native.Mathlib.Omega.{arith}
@@ -138,6 +138,10 @@ has-or a b k = ap (λ (n : ℕ). eqb n 1) (bit-or a b k) ∙ two-digits (λ p q.
 -- of both
 pub has-and : (a b k : ℕ) → has (bitAnd a b) k ≡ (has a k && has b k)
 has-and a b k = ap (λ (n : ℕ). eqb n 1) (bit-and a b k) ∙ two-digits (λ p q. eqb (min p q) 1 ≡ (eqb p 1 && eqb q 1)) refl refl refl refl (bitOf a k) (bitOf b k) (bit-low a k) (bit-low b k)
+
+-- of the one and not of the other
+pub has-without : (a b k : ℕ) → has (without a b) k ≡ (has a k && not (has b k))
+has-without a b k = ap (λ (n : ℕ). eqb n 1) (bit-without a b k) ∙ two-digits (λ p q. eqb (p - q) 1 ≡ (eqb p 1 && not (eqb q 1))) refl refl refl refl (bitOf a k) (bitOf b k) (bit-low a k) (bit-low b k)
 
 -- frame k alone
 pub has-alone : (k j : ℕ) → has (frameAlone k) j ≡ eqb j k

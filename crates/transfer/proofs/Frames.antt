@@ -18,7 +18,7 @@ all-but-first (suc n) =
     omega (arith, pow-pos n)
 
 -- each of the first n frames is one of them
-bit-firsts : (n k : ℕ) → k < n → bitOf (firstFrames n) k ≡ 1
+pub bit-firsts : (n k : ℕ) → k < n → bitOf (firstFrames n) k ≡ 1
 bit-firsts zero k h = absurd (omega arith)
 bit-firsts (suc n) zero h = let two : 2 ^ suc n ≡ 2 ^ n + 2 ^ n = two-pow-succ n in bit-first (firstFrames (suc n)) ∙ omega (arith, pow-pos n)
 bit-firsts (suc n) (suc k) h =

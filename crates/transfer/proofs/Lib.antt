@@ -6,6 +6,7 @@ pub mod Asked
 pub mod Bitsets
 pub mod Calls
 pub mod Carried
+pub mod Exactly
 pub mod Faithful
 pub mod Framed
 pub mod Frames

@@ -221,6 +221,16 @@ module _ {A : Type 0} where
       go true q h f = q
       go false q h f = f (omega arith)
 
+  -- no earlier one passes
+  pub position-before : (p : A → Bool) (d : A) (l : List A) (j : ℕ) → j < position p l → p (getD l j d) ≡ false
+  position-before p d [] j h = absurd (omega arith)
+  position-before p d (x ∷ l) j h = go (p x) refl j h (position-before p d l)
+    where
+      go : (b : Bool) → p x ≡ b → (j : ℕ) → j < cond b 0 (suc (position p l)) → ((i : ℕ) → i < position p l → p (getD l i d) ≡ false) → p (getD (x ∷ l) j d) ≡ false
+      go true q j h f = absurd (omega arith)
+      go false q zero h f = q
+      go false q (suc j) h f = f j (omega arith)
+
   -- ---- as many as there are numbers
 
   -- k numbers, each that of some element: there are k elements

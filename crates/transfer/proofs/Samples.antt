@@ -12,7 +12,7 @@ use Rattle.field.specs.Bits.{bit, bits, value, bitsOf, octets}
 use Rattle.field.specs.Layout.{layout, upTo, anySet}
 use Rattle.rach.specs.Identity.{same, inRange, encodable}
 use Rattle.rach.specs.declared.MobileIdentity.{MobileIdentity}
-use Rattle.rach.specs.declared.MobileIdentity.the-variants.{Tmsi20}
+use Rattle.rach.specs.declared.MobileIdentity.the-variants.{Tmsi20, Tmsi24, Min34}
 use Rattle.spach.specs.declared.Channel.{Channel}
 use Rattle.spach.specs.declared.Channel.the-variants.{Arch, Smsch, Pch}
 use Rattle.spach.specs.Refusal.{Outcome, gives, refuses, After}
@@ -225,6 +225,22 @@ crowded deadline v = record {
   echoes = record { «echo_until_ms» = replicate 127 (deadline + v .limits .«echo_guard_ms») ++ 0 ∷ []; «next_echo» = 127 };
   selected = none;
   «next_token» = v .«next_token» + 127;
+}
+
+-- 50 for echo 5, 100 for 2, 3, 9 and 12, 1000 for each other
+deadlines : List ℕ
+deadlines = 1000 ∷ 1000 ∷ 100 ∷ 100 ∷ 1000 ∷ 50 ∷ 1000 ∷ 1000 ∷ 1000 ∷ 100 ∷ 1000 ∷ 1000 ∷ 100 ∷ replicate 115 1000
+
+-- what 128 transfers leave in a fresh sender that were enqueued with these deadlines at its first usable block, one after the other cancelled
+abbrev left : List ℕ → View → View
+left deadlines v = record {
+  limits = v .limits;
+  clock = record { «last_block» = v .limits .«startup_until_block»; «last_ms» = 0 };
+  transfers = [];
+  events = [];
+  echoes = record { «echo_until_ms» = map (λ d. d + v .limits .«echo_guard_ms») deadlines; «next_echo» = 0 };
+  selected = none;
+  «next_token» = v .«next_token» + 128;
 }
 
 -- ---- lives
@@ -707,6 +723,241 @@ two-at-once =
     ∷ (pop, nothing)
     ∷ []
 
+-- the age of a ready transfer counts from its last frame: a status at 20 leaves it. Of 1 2 3 the second is the oldest; a frame stays selected whose transfer is not the first
+served-by-age : List (Call × Line)
+served-by-age =
+    (enqueue (Tmsi20 1) Arch (65 ∷ []) 1 5000 10 100, owner 100)
+    ∷ (enqueue (Tmsi20 2) Arch (1 ∷ 2 ∷ 3 ∷ 4 ∷ 5 ∷ 6 ∷ 7 ∷ []) 2 5000 10 100, owner 101)
+    ∷ (enqueue (Tmsi20 3) Arch (0x81 ∷ 0x82 ∷ 0x83 ∷ 0x84 ∷ 0x85 ∷ 0x86 ∷ 0x87 ∷ []) 3 5000 10 100, owner 102)
+    ∷ (prioritize 1 10 100, frame 101 103 0 1 (0x61 ∷ 0x40 ∷ 0x00 ∷ 0x00 ∷ 0x40 ∷ 0x40 ∷ 0x1c ∷ 0x04 ∷ 0x08 ∷ 0x0c ∷ 0x10 ∷ 0x14 ∷ 0x18 ∷ 0x18 ∷ []))
+    ∷ (submitted 101 103 0 10 100, done)
+    ∷ (radioActive, answer true)
+    ∷ (prepare 12 100, frame 100 104 0 0 (0x61 ∷ 0x40 ∷ 0x00 ∷ 0x00 ∷ 0x20 ∷ 0x08 ∷ 0x05 ∷ 0x04 ∷ replicate 6 0))
+    ∷ (submitted 100 104 0 12 100, done)
+    ∷ (prepare 13 100, frame 102 105 0 2 (0x61 ∷ 0x40 ∷ 0x00 ∷ 0x00 ∷ 0x60 ∷ 0x80 ∷ 0x1e ∷ 0x06 ∷ 0x0a ∷ 0x0e ∷ 0x12 ∷ 0x16 ∷ 0x1a ∷ 0x18 ∷ []))
+    ∷ (submitted 102 105 0 13 100, done)
+    ∷ (prioritize 0 13 100, nothing)
+    ∷ (order, numbers (1 ∷ 2 ∷ 3 ∷ []))
+    ∷ (ready, answer true)
+    ∷ (prepare 13 100, frame 101 106 1 1 (0x61 ∷ 0x80 ∷ 0x09 ∷ 0x02 ∷ replicate 10 0))
+    ∷ (prepare 13 100, frame 101 106 1 1 (0x61 ∷ 0x80 ∷ 0x09 ∷ 0x02 ∷ replicate 10 0))
+    ∷ (prioritize 0 13 100, nothing)
+    ∷ (transmitted 100 104 0 14 100, confirmed true)
+    ∷ (status 1 0 20 100, answer true)
+    ∷ (order, numbers (1 ∷ 2 ∷ 3 ∷ []))
+    ∷ (refresh 29 100, done)
+    ∷ (order, numbers (2 ∷ 1 ∷ 3 ∷ []))
+    ∷ (queue 1, numbers (0 ∷ []))
+    ∷ (prepare 29 100, frame 101 107 1 1 (0x61 ∷ 0x80 ∷ 0x09 ∷ 0x02 ∷ replicate 10 0))
+    ∷ (ready, answer true)
+    ∷ []
+
+-- five frames, confirmed out of order: put first, the last is sent again; a status that shows frame 2 queues 1, 3 and 4; one that comes while they are queued leaves queue and
+-- selection; then 3 alone is missing, and polled
+missing : List (Call × Line)
+missing =
+    (enqueue (Tmsi20 1) Smsch (1 ∷ 2 ∷ 3 ∷ 4 ∷ 5 ∷ 6 ∷ 7 ∷ 8 ∷ 9 ∷ 10 ∷ 11 ∷ 12 ∷ 13 ∷ 14 ∷ 15 ∷ 16 ∷ 17 ∷ 18 ∷ 19 ∷ 20 ∷ 21 ∷ 22 ∷ 23 ∷ 24 ∷ 25 ∷ 26 ∷ 27 ∷ 28 ∷ 29 ∷ 30 ∷ 31 ∷ 32 ∷ 33 ∷ 34 ∷ 35 ∷ 36 ∷ 37 ∷ []) 1 5000 10 100, owner 100)
+    ∷ (prepare 10 100, frame 100 101 0 0 (0x81 ∷ 0x40 ∷ 0x00 ∷ 0x00 ∷ 0x20 ∷ 0x00 ∷ 0x94 ∷ 0x04 ∷ 0x08 ∷ 0x0c ∷ 0x10 ∷ 0x14 ∷ 0x18 ∷ 0x18 ∷ []))
+    ∷ (submitted 100 101 0 10 100, done)
+    ∷ (prepare 10 100, frame 100 102 1 0 (0x81 ∷ 0x80 ∷ 0x00 ∷ 0x02 ∷ 0x10 ∷ 0x12 ∷ 0x14 ∷ 0x16 ∷ 0x18 ∷ 0x1a ∷ 0x1c ∷ 0x1e ∷ 0x20 ∷ 0x20 ∷ []))
+    ∷ (submitted 100 102 1 10 100, done)
+    ∷ (prepare 10 100, frame 100 103 2 0 (0x81 ∷ 0x80 ∷ 0x00 ∷ 0x05 ∷ 0x12 ∷ 0x13 ∷ 0x14 ∷ 0x15 ∷ 0x16 ∷ 0x17 ∷ 0x18 ∷ 0x19 ∷ 0x1a ∷ 0x18 ∷ []))
+    ∷ (submitted 100 103 2 10 100, done)
+    ∷ (prepare 10 100, frame 100 104 3 0 (0x81 ∷ 0x80 ∷ 0x00 ∷ 0x09 ∷ 0x8e ∷ 0x0e ∷ 0x8f ∷ 0x0f ∷ 0x90 ∷ 0x10 ∷ 0x91 ∷ 0x11 ∷ 0x92 ∷ 0x10 ∷ []))
+    ∷ (submitted 100 104 3 10 100, done)
+    ∷ (prepare 10 100, frame 100 105 4 0 (0x81 ∷ 0x80 ∷ 0x01 ∷ 0x0d ∷ 0x40 ∷ replicate 9 0))
+    ∷ (submitted 100 105 4 10 100, done)
+    ∷ (transmitted 100 103 2 11 100, confirmed false)
+    ∷ (transmitted 100 101 0 11 100, confirmed false)
+    ∷ (transmitted 100 105 4 11 100, confirmed false)
+    ∷ (transmitted 100 102 1 11 100, confirmed false)
+    ∷ (transmitted 100 104 3 12 100, confirmed true)
+    ∷ (radioActive, answer true)
+    ∷ (prioritize 0 16 100, frame 100 106 4 0 (0x81 ∷ 0x80 ∷ 0x01 ∷ 0x0d ∷ 0x40 ∷ replicate 9 0))
+    ∷ (submitted 100 106 4 16 100, done)
+    ∷ (status 0 2 17 100, answer true)
+    ∷ (state, whole ((1 ∷ 0 ∷ 37 ∷ 5 ∷ 100 ∷ 0 ∷ 100 ∷ 0 ∷ 16 ∷ 31 ∷ 4 ∷ 1 ∷ 18 ∷ 17 ∷ 0 ∷ 5000 ∷ []) ∷ []) [] [] (1 ∷ 17 ∷ 100 ∷ 107 ∷ []))
+    ∷ (transmitted 100 106 4 18 100, confirmed true)
+    ∷ (queue 0, numbers (1 ∷ 3 ∷ 4 ∷ []))
+    ∷ (submittedMessage 100 0 18446744073709551615, number 1)
+    ∷ (prepare 19 100, frame 100 107 1 0 (0x81 ∷ 0x80 ∷ 0x00 ∷ 0x02 ∷ 0x10 ∷ 0x12 ∷ 0x14 ∷ 0x16 ∷ 0x18 ∷ 0x1a ∷ 0x1c ∷ 0x1e ∷ 0x20 ∷ 0x20 ∷ []))
+    ∷ (status 0 9 20 100, answer true)
+    ∷ (status 0 9 21 100, answer true)
+    ∷ (submitted 100 107 1 21 100, done)
+    ∷ (state, whole ((1 ∷ 0 ∷ 37 ∷ 5 ∷ 100 ∷ 0 ∷ 100 ∷ 24 ∷ 2 ∷ 31 ∷ 22 ∷ 1 ∷ 22 ∷ 22 ∷ 0 ∷ 5000 ∷ []) ∷ []) [] [] (1 ∷ 21 ∷ 100 ∷ 108 ∷ []))
+    ∷ (prepare 22 100, frame 100 108 3 0 (0x81 ∷ 0x80 ∷ 0x00 ∷ 0x09 ∷ 0x8e ∷ 0x0e ∷ 0x8f ∷ 0x0f ∷ 0x90 ∷ 0x10 ∷ 0x91 ∷ 0x11 ∷ 0x92 ∷ 0x10 ∷ []))
+    ∷ (submitted 100 108 3 22 100, done)
+    ∷ (transmitted 100 108 3 22 100, confirmed true)
+    ∷ (prepare 23 100, frame 100 109 4 0 (0x81 ∷ 0x80 ∷ 0x01 ∷ 0x0d ∷ 0x40 ∷ replicate 9 0))
+    ∷ (submitted 100 109 4 23 100, done)
+    ∷ (transmitted 100 109 4 24 100, confirmed true)
+    ∷ (transmitted 100 107 1 24 100, confirmed true)
+    ∷ (state, whole ((1 ∷ 0 ∷ 37 ∷ 5 ∷ 100 ∷ 0 ∷ 100 ∷ 8 ∷ 0 ∷ 31 ∷ 22 ∷ 0 ∷ 24 ∷ 24 ∷ 0 ∷ 5000 ∷ []) ∷ []) [] [] (1 ∷ 24 ∷ 100 ∷ 110 ∷ []))
+    ∷ (prepare 24 100, frame 100 110 3 0 (0x81 ∷ 0x80 ∷ 0x01 ∷ 0x09 ∷ 0x8e ∷ 0x0e ∷ 0x8f ∷ 0x0f ∷ 0x90 ∷ 0x10 ∷ 0x91 ∷ 0x11 ∷ 0x92 ∷ 0x10 ∷ []))
+    ∷ (status 0 15 25 100, answer true)
+    ∷ (pop, event 0 1)
+    ∷ (held 0, number 6000)
+    ∷ []
+
+-- one restart is asked for and one is due, in one walk; of status, observed frames and selection nothing is left; `transmitted` advances the others too
+forgotten : List (Call × Line)
+forgotten =
+    (enqueue (Tmsi20 1) Arch (replicate 17 65) 1 5000 10 100, owner 100)
+    ∷ (enqueue (Tmsi20 2) Arch (66 ∷ []) 2 5000 10 100, owner 101)
+    ∷ (hasEcho 0, answer true)
+    ∷ (prepare 10 100, frame 100 102 0 0 (0x61 ∷ 0x40 ∷ 0x00 ∷ 0x00 ∷ 0x20 ∷ 0x00 ∷ 0x45 ∷ 0x05 ∷ 0x05 ∷ 0x05 ∷ 0x05 ∷ 0x05 ∷ 0x05 ∷ 0x00 ∷ []))
+    ∷ (submitted 100 102 0 10 100, done)
+    ∷ (prepare 10 100, frame 101 103 0 1 (0x61 ∷ 0x40 ∷ 0x00 ∷ 0x00 ∷ 0x40 ∷ 0x48 ∷ 0x05 ∷ 0x08 ∷ replicate 6 0))
+    ∷ (submitted 101 103 0 10 100, done)
+    ∷ (prepare 11 100, frame 100 104 1 0 (0x61 ∷ 0x80 ∷ 0x00 ∷ 0x02 ∷ 0x82 ∷ 0x82 ∷ 0x82 ∷ 0x82 ∷ 0x82 ∷ 0x82 ∷ 0x82 ∷ 0x82 ∷ 0x82 ∷ 0x80 ∷ []))
+    ∷ (submitted 100 104 1 11 100, done)
+    ∷ (status 0 1 12 100, answer true)
+    ∷ (prepare 12 100, frame 100 105 2 0 (0x61 ∷ 0x80 ∷ 0x01 ∷ 0x05 ∷ replicate 10 0))
+    ∷ (interrupt 0 74 100, answer true)
+    ∷ (state, whole ((2 ∷ 1 ∷ 1 ∷ 1 ∷ 101 ∷ 2 ∷ 106 ∷ 1 ∷ 0 ∷ 0 ∷ 0 ∷ 0 ∷ 0 ∷ 0 ∷ 0 ∷ 5000 ∷ []) ∷ (1 ∷ 0 ∷ 17 ∷ 3 ∷ 100 ∷ 3 ∷ 107 ∷ 7 ∷ 0 ∷ 0 ∷ 0 ∷ 0 ∷ 0 ∷ 0 ∷ 0 ∷ 5000 ∷ []) ∷ []) [] [] (4 ∷ 74 ∷ 100 ∷ 108 ∷ []))
+    ∷ (prepare 74 100, frame 106 108 0 2 (0x61 ∷ 0x40 ∷ 0x00 ∷ 0x00 ∷ 0x40 ∷ 0x88 ∷ 0x05 ∷ 0x08 ∷ replicate 6 0))
+    ∷ (submitted 106 108 0 74 100, done)
+    ∷ (submittedMessage 106 108 0, number 2)
+    ∷ (submittedMessage 101 108 0, nothing)
+    ∷ (prepare 75 100, frame 107 109 0 3 (0x61 ∷ 0x40 ∷ 0x00 ∷ 0x00 ∷ 0x20 ∷ 0xc0 ∷ 0x45 ∷ 0x05 ∷ 0x05 ∷ 0x05 ∷ 0x05 ∷ 0x05 ∷ 0x05 ∷ 0x00 ∷ []))
+    ∷ (submitted 107 109 0 75 100, done)
+    ∷ (prepare 76 100, frame 107 110 1 3 (0x61 ∷ 0x80 ∷ 0x18 ∷ 0x02 ∷ 0x82 ∷ 0x82 ∷ 0x82 ∷ 0x82 ∷ 0x82 ∷ 0x82 ∷ 0x82 ∷ 0x82 ∷ 0x82 ∷ 0x80 ∷ []))
+    ∷ (transmitted 106 108 0 139 100, confirmed true)
+    ∷ (state, whole ((2 ∷ 1 ∷ 1 ∷ 1 ∷ 101 ∷ 4 ∷ 111 ∷ 1 ∷ 0 ∷ 0 ∷ 0 ∷ 0 ∷ 0 ∷ 0 ∷ 0 ∷ 5000 ∷ []) ∷ (1 ∷ 0 ∷ 17 ∷ 3 ∷ 100 ∷ 5 ∷ 112 ∷ 7 ∷ 0 ∷ 0 ∷ 0 ∷ 0 ∷ 0 ∷ 0 ∷ 0 ∷ 5000 ∷ []) ∷ []) [] [] (6 ∷ 139 ∷ 100 ∷ 113 ∷ []))
+    ∷ []
+
+-- a waiting order of three frames is put first: its last frame again; a status that shows none queues both Continues
+none-heard : List (Call × Line)
+none-heard =
+    (enqueue (Tmsi20 1) Arch (replicate 17 65) 1 5000 10 100, owner 100)
+    ∷ (prepare 10 100, frame 100 101 0 0 (0x61 ∷ 0x40 ∷ 0x00 ∷ 0x00 ∷ 0x20 ∷ 0x00 ∷ 0x45 ∷ 0x05 ∷ 0x05 ∷ 0x05 ∷ 0x05 ∷ 0x05 ∷ 0x05 ∷ 0x00 ∷ []))
+    ∷ (submitted 100 101 0 10 100, done)
+    ∷ (prepare 10 100, frame 100 102 1 0 (0x61 ∷ 0x80 ∷ 0x00 ∷ 0x02 ∷ 0x82 ∷ 0x82 ∷ 0x82 ∷ 0x82 ∷ 0x82 ∷ 0x82 ∷ 0x82 ∷ 0x82 ∷ 0x82 ∷ 0x80 ∷ []))
+    ∷ (submitted 100 102 1 10 100, done)
+    ∷ (prepare 10 100, frame 100 103 2 0 (0x61 ∷ 0x80 ∷ 0x01 ∷ 0x05 ∷ replicate 10 0))
+    ∷ (submitted 100 103 2 10 100, done)
+    ∷ (transmitted 100 101 0 11 100, confirmed false)
+    ∷ (transmitted 100 102 1 11 100, confirmed false)
+    ∷ (transmitted 100 103 2 11 100, confirmed true)
+    ∷ (prioritize 0 12 100, frame 100 104 2 0 (0x61 ∷ 0x80 ∷ 0x01 ∷ 0x05 ∷ replicate 10 0))
+    ∷ (submitted 100 104 2 12 100, done)
+    ∷ (transmitted 100 104 2 12 100, confirmed true)
+    ∷ (status 0 0 13 100, answer true)
+    ∷ (queue 0, numbers (1 ∷ 2 ∷ []))
+    ∷ (state, whole ((1 ∷ 0 ∷ 17 ∷ 3 ∷ 100 ∷ 0 ∷ 100 ∷ 6 ∷ 0 ∷ 7 ∷ 0 ∷ 0 ∷ 14 ∷ 13 ∷ 0 ∷ 5000 ∷ []) ∷ []) [] [] (1 ∷ 13 ∷ 100 ∷ 105 ∷ []))
+    ∷ []
+
+-- a selected frame stays when others expire, are complete, are replaced or restart; it goes when its own transfer does
+others-stay : List (Call × Line)
+others-stay =
+    (enqueue (Tmsi20 1) Arch (65 ∷ []) 1 200 10 100, owner 100)
+    ∷ (enqueue (Tmsi20 2) Arch (66 ∷ []) 2 5000 10 100, owner 101)
+    ∷ (enqueue (Tmsi20 3) Arch (67 ∷ []) 3 300 10 100, owner 102)
+    ∷ (prioritize 1 10 100, frame 101 103 0 1 (0x61 ∷ 0x40 ∷ 0x00 ∷ 0x00 ∷ 0x40 ∷ 0x48 ∷ 0x05 ∷ 0x08 ∷ replicate 6 0))
+    ∷ (advance 11 200, done)
+    ∷ (prepare 11 200, frame 101 103 0 1 (0x61 ∷ 0x40 ∷ 0x00 ∷ 0x00 ∷ 0x40 ∷ 0x48 ∷ 0x05 ∷ 0x08 ∷ replicate 6 0))
+    ∷ (status 99 0 11 300, answer false)
+    ∷ (pop, event 1 1)
+    ∷ (pop, event 1 3)
+    ∷ (enqueue (Tmsi20 4) Arch (68 ∷ []) 4 400 11 300, owner 104)
+    ∷ (submitted 101 103 0 12 300, done)
+    ∷ (prepare 12 300, frame 104 105 0 3 (0x61 ∷ 0x40 ∷ 0x00 ∷ 0x00 ∷ 0x80 ∷ 0xc8 ∷ 0x05 ∷ 0x10 ∷ replicate 6 0))
+    ∷ (transmitted 101 103 0 13 300, confirmed true)
+    ∷ (status 1 0 14 300, answer true)
+    ∷ (pop, event 0 2)
+    ∷ (enqueue (Tmsi20 5) Arch (69 ∷ []) 5 5000 14 300, owner 106)
+    ∷ (enqueue (Tmsi20 5) Arch (70 ∷ []) 6 5000 14 300, owner 107)
+    ∷ (interrupt 5 14 300, answer true)
+    ∷ (prepare 14 300, frame 104 105 0 3 (0x61 ∷ 0x40 ∷ 0x00 ∷ 0x00 ∷ 0x80 ∷ 0xc8 ∷ 0x05 ∷ 0x10 ∷ replicate 6 0))
+    ∷ (advance 15 400, done)
+    ∷ (state, whole ((6 ∷ 1 ∷ 1 ∷ 1 ∷ 107 ∷ 6 ∷ 108 ∷ 1 ∷ 0 ∷ 0 ∷ 0 ∷ 0 ∷ 0 ∷ 0 ∷ 0 ∷ 5000 ∷ []) ∷ []) (2 ∷ 5 ∷ 1 ∷ 4 ∷ []) [] (7 ∷ 15 ∷ 400 ∷ 109 ∷ []))
+    ∷ (prepare 15 400, frame 108 109 0 6 (0x61 ∷ 0x40 ∷ 0x00 ∷ 0x00 ∷ 0xa1 ∷ 0x88 ∷ 0x05 ∷ 0x18 ∷ replicate 6 0))
+    ∷ (enqueue (Tmsi20 5) Arch (71 ∷ []) 7 600 15 400, owner 110)
+    ∷ (state, whole ((7 ∷ 0 ∷ 1 ∷ 1 ∷ 110 ∷ 7 ∷ 110 ∷ 1 ∷ 0 ∷ 0 ∷ 0 ∷ 0 ∷ 0 ∷ 0 ∷ 0 ∷ 600 ∷ []) ∷ []) (2 ∷ 5 ∷ 1 ∷ 4 ∷ 2 ∷ 6 ∷ []) [] (8 ∷ 15 ∷ 400 ∷ 111 ∷ []))
+    ∷ (cancelAll, done)
+    ∷ (held 6, number 5000)
+    ∷ (held 7, number 600)
+    ∷ (pop, event 2 5)
+    ∷ (pop, event 1 4)
+    ∷ []
+
+-- an overdue transfer is live until `advance`; either clock gone back is refused 22, and neither moves; an echo over 127 is no transfer's
+overdue : List (Call × Line)
+overdue =
+    (enqueue (Tmsi20 1) Arch (65 ∷ []) 1 50 10 10, owner 100)
+    ∷ (interrupt 9 11 50, answer false)
+    ∷ (pending, number 1)
+    ∷ (contains (Tmsi20 1), answer true)
+    ∷ (hasEcho 0, answer true)
+    ∷ (identityForEcho 0, to (Tmsi20 1))
+    ∷ (ready, answer true)
+    ∷ (canEnqueue 11 50, answer false)
+    ∷ (enqueue (Tmsi20 2) Arch (66 ∷ []) 2 500 11 50, refused 20)
+    ∷ (cancelAll, done)
+    ∷ (pop, event 2 1)
+    ∷ (canEnqueue 5 5, answer true)
+    ∷ (enqueue (Tmsi20 1) Arch (65 ∷ []) 3 100 11 50, owner 101)
+    ∷ (prioritize 129 11 50, nothing)
+    ∷ (prepare 11 50, frame 101 102 0 1 (0x61 ∷ 0x40 ∷ 0x00 ∷ 0x00 ∷ 0x20 ∷ 0x48 ∷ 0x05 ∷ 0x04 ∷ replicate 6 0))
+    ∷ (submitted 101 102 0 11 50, done)
+    ∷ (advance 10 100, refused 22)
+    ∷ (advance 12 49, refused 22)
+    ∷ (interrupt 129 11 50, answer false)
+    ∷ (status 129 0 11 50, answer false)
+    ∷ (state, whole ((3 ∷ 0 ∷ 1 ∷ 1 ∷ 101 ∷ 1 ∷ 101 ∷ 0 ∷ 1 ∷ 0 ∷ 0 ∷ 0 ∷ 12 ∷ 12 ∷ 0 ∷ 100 ∷ []) ∷ []) [] [] (2 ∷ 11 ∷ 50 ∷ 103 ∷ []))
+    ∷ (transmitted 101 102 1 12 100, unknown)
+    ∷ (submittedMessage 101 102 0, number 3)
+    ∷ (advance 12 100, done)
+    ∷ (pop, event 1 3)
+    ∷ (enqueue (Tmsi20 1) Arch (65 ∷ []) 4 200 12 100, owner 103)
+    ∷ (interrupt 9 12 200, answer false)
+    ∷ (cancel (Tmsi20 1), answer true)
+    ∷ (pop, event 2 4)
+    ∷ []
+
+-- identities of other types with one value are others; the lowest n is taken, and events do not count as transfers
+same-number : List (Call × Line)
+same-number =
+    (enqueue (Tmsi20 1) Arch (65 ∷ []) 1 5000 10 100, owner 100)
+    ∷ (enqueue (Tmsi24 1) Arch (66 ∷ []) 2 5000 10 100, owner 101)
+    ∷ (enqueue (Tmsi20 2) Arch (67 ∷ []) 3 5000 10 100, owner 102)
+    ∷ (order, numbers (1 ∷ 2 ∷ 3 ∷ []))
+    ∷ (contains (Min34 1), answer false)
+    ∷ (contains (Tmsi24 1), answer true)
+    ∷ (identityForEcho 1, to (Tmsi24 1))
+    ∷ (cancel (Min34 1), answer false)
+    ∷ (cancel (Tmsi24 1), answer true)
+    ∷ (cancel (Tmsi20 1), answer true)
+    ∷ (order, numbers (3 ∷ []))
+    ∷ (canEnqueue 10 100, answer true)
+    ∷ (enqueue (Min34 2) Smsch (68 ∷ []) 4 5000 10 100, owner 103)
+    ∷ (state, whole ((3 ∷ 2 ∷ 1 ∷ 1 ∷ 102 ∷ 2 ∷ 102 ∷ 1 ∷ 0 ∷ 0 ∷ 0 ∷ 0 ∷ 0 ∷ 0 ∷ 0 ∷ 5000 ∷ []) ∷ (4 ∷ 0 ∷ 1 ∷ 1 ∷ 103 ∷ 3 ∷ 103 ∷ 1 ∷ 0 ∷ 0 ∷ 0 ∷ 0 ∷ 0 ∷ 0 ∷ 0 ∷ 5000 ∷ []) ∷ []) (2 ∷ 2 ∷ 2 ∷ 1 ∷ []) [] (4 ∷ 10 ∷ 100 ∷ 104 ∷ []))
+    ∷ []
+
+-- the next echo is held and free ones stand on both sides: 5 at 50; at 100 9, 12, then round to 2, 3; then none
+around : List (Call × Line)
+around =
+    (canEnqueue 10 49, answer false)
+    ∷ (canEnqueue 10 50, answer true)
+    ∷ (enqueue (Tmsi20 1) Arch (65 ∷ []) 1 5000 10 50, owner 228)
+    ∷ (identityForEcho 5, to (Tmsi20 1))
+    ∷ (enqueue (Tmsi20 2) Arch (66 ∷ []) 2 5000 10 99, refused 21)
+    ∷ (enqueue (Tmsi20 2) Arch (66 ∷ []) 2 5000 10 100, owner 229)
+    ∷ (identityForEcho 9, to (Tmsi20 2))
+    ∷ (canEnqueue 10 99, answer false)
+    ∷ (canEnqueue 4 100, answer false)
+    ∷ (interrupt 5 10 100, answer true)
+    ∷ (identityForEcho 12, to (Tmsi20 1))
+    ∷ (enqueue (Tmsi20 3) Arch (67 ∷ []) 3 5000 10 100, owner 231)
+    ∷ (enqueue (Tmsi20 4) Arch (68 ∷ []) 4 5000 10 100, owner 232)
+    ∷ (enqueue (Tmsi20 5) Arch (69 ∷ []) 5 5000 10 100, refused 21)
+    ∷ (state, whole ((1 ∷ 0 ∷ 1 ∷ 1 ∷ 228 ∷ 12 ∷ 230 ∷ 1 ∷ 0 ∷ 0 ∷ 0 ∷ 0 ∷ 0 ∷ 0 ∷ 0 ∷ 5000 ∷ []) ∷ (2 ∷ 1 ∷ 1 ∷ 1 ∷ 229 ∷ 9 ∷ 229 ∷ 1 ∷ 0 ∷ 0 ∷ 0 ∷ 0 ∷ 0 ∷ 0 ∷ 0 ∷ 5000 ∷ []) ∷ (3 ∷ 2 ∷ 1 ∷ 1 ∷ 231 ∷ 2 ∷ 231 ∷ 1 ∷ 0 ∷ 0 ∷ 0 ∷ 0 ∷ 0 ∷ 0 ∷ 0 ∷ 5000 ∷ []) ∷ (4 ∷ 3 ∷ 1 ∷ 1 ∷ 232 ∷ 3 ∷ 232 ∷ 1 ∷ 0 ∷ 0 ∷ 0 ∷ 0 ∷ 0 ∷ 0 ∷ 0 ∷ 5000 ∷ []) ∷ []) [] [] (4 ∷ 10 ∷ 100 ∷ 233 ∷ []))
+    ∷ (interrupt 9 11 100, answer true)
+    ∷ (pop, event 21 2)
+    ∷ (held 9, number 5000)
+    ∷ (order, numbers (1 ∷ 3 ∷ 4 ∷ []))
+    ∷ []
+
 -- 26 bits of a status are read, and no more: Continues 0 to 25 are the frames 1 to 26
 shows-26 : (shown 0xffffffff ≡ 134217726) × (shown 0xfc000000 ≡ 0)
 shows-26 = (refl, refl)
@@ -741,5 +992,13 @@ settled : Lives (fresh 4 1000 0 100) one-frame
     × Lives (fresh 2 0 0 100) in-flight-again
     × Lives (fresh 4 0 0 100) at-the-deadline
     × Lives (fresh 4 0 0 100) two-at-once
-unfolding one-frame three-frames restarts waits equal-ages replacement shared-echo expires prioritized interrupted shortage answered-again store-short tokens-short in-order no-echo refreshes later-frames in-flight-again at-the-deadline two-at-once octets bitsOf bits value layout upTo anySet same inRange encodable packed beginFrame continueFrame encodeOf countOf frameOf ones onesIn trailingZeros framesOf freeEcho doneOf settleOf fateOf step walk walked advanceOf grantOf accepts enqueueOf packedOf choose prepareOf interruptOf prioritizeAt preparePrioritizedOf submittedAt submittedOf submittedMessageOf transmittedAt transmittedOf statusAt statusOf cancelOf cancelTransactionOf cancelAllOf queueWaiting oldest serveOldest refreshWaitingOf canEnqueueOf identityForEchoOf popEventOf
-settled = (refl, refl, refl, refl, refl, refl, refl, refl, refl, refl, refl, refl, refl, refl, refl, refl, refl, refl, refl, refl, refl)
+    × Lives (fresh 4 0 0 100) served-by-age
+    × Lives (fresh 4 1000 0 100) missing
+    × Lives (fresh 4 1000 0 100) forgotten
+    × Lives (fresh 4 0 0 100) none-heard
+    × Lives (fresh 4 0 0 100) others-stay
+    × Lives (fresh 1 0 0 100) overdue
+    × Lives (fresh 3 0 0 100) same-number
+    × Lives (left deadlines (fresh 8 0 5 100)) around
+unfolding one-frame three-frames restarts waits equal-ages replacement shared-echo expires prioritized interrupted shortage answered-again store-short tokens-short in-order no-echo refreshes later-frames in-flight-again at-the-deadline two-at-once served-by-age missing forgotten none-heard others-stay overdue same-number around deadlines octets bitsOf bits value layout upTo anySet same inRange encodable packed beginFrame continueFrame encodeOf countOf frameOf ones onesIn trailingZeros framesOf freeEcho doneOf settleOf fateOf step walk walked advanceOf grantOf accepts enqueueOf packedOf choose prepareOf interruptOf prioritizeAt preparePrioritizedOf submittedAt submittedOf submittedMessageOf transmittedAt transmittedOf statusAt statusOf cancelOf cancelTransactionOf cancelAllOf queueWaiting oldest serveOldest refreshWaitingOf canEnqueueOf identityForEchoOf popEventOf
+settled = (refl, refl, refl, refl, refl, refl, refl, refl, refl, refl, refl, refl, refl, refl, refl, refl, refl, refl, refl, refl, refl, refl, refl, refl, refl, refl, refl, refl, refl)

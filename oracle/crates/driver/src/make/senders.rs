@@ -28,6 +28,7 @@ const FAR: u64 = 1 << 40;
 const ONE: usize = 6;
 const TWO: usize = 7;
 const THREE: usize = 17;
+const FIVE: usize = 37;
 
 pub fn fixed_script() -> Vec<u8> {
     let mut script = Script {
@@ -53,6 +54,15 @@ pub fn fixed_script() -> Vec<u8> {
     script.exhausted();
     script.shared();
     script.restarts_of_64();
+    script.ages();
+    script.missing();
+    script.none_heard();
+    script.forgotten();
+    script.others_stay();
+    script.overdue();
+    script.same_number();
+    script.around();
+    script.later_frames();
     script.octets
 }
 
@@ -575,6 +585,300 @@ impl Script {
         }
         self.push(SENDER_ECHOES, &[&[4]]);
         self.clocked(PREPARE, 64, 0);
+    }
+    /// A status between its last frame and the refresh leaves the age of the second, which is the oldest that is ready;
+    /// what is selected need not be of the first.
+    fn ages(&mut self) {
+        self.made(4, 0, 0, 0);
+        for (who, length) in [(1, ONE), (2, TWO), (3, TWO)] {
+            self.enqueued(to(who, length), 10, 0);
+        }
+        self.echoed(PRIORITIZED, 1, 10, 0);
+        let second = self.selected();
+        self.with_token(SUBMITTED, second, 10, 0);
+        self.push(RADIO_ACTIVE, &[]);
+        let first = self.sent(12);
+        self.sent(13);
+        self.echoed(PRIORITIZED, 0, 13, 0);
+        self.push(READY, &[]);
+        self.clocked(PREPARE, 13, 0);
+        self.clocked(PREPARE, 13, 0);
+        self.echoed(PRIORITIZED, 0, 13, 0);
+        self.with_token(TRANSMITTED, first, 14, 0);
+        self.status(1, 0, 20);
+        self.clocked(REFRESH, 29, 0);
+        self.shown(3);
+        self.clocked(PREPARE, 29, 0);
+        self.push(READY, &[]);
+    }
+    /// Of five frames, confirmed in another order: the last again; three Continues missing, of which a later status shows
+    /// two while they are queued; then one, which is polled though it is not the last.
+    fn missing(&mut self) {
+        self.made(1, 1000, 0, 0);
+        let asked = Asked {
+            channel: SMSCH,
+            ..to(1, FIVE)
+        };
+        self.enqueued(asked, 10, 0);
+        let sent = [(); 5].map(|()| self.sent(10));
+        for frame in [2, 0, 4, 1, 3] {
+            self.with_token(TRANSMITTED, sent[frame], 11, 0);
+        }
+        self.push(RADIO_ACTIVE, &[]);
+        self.echoed(PRIORITIZED, 0, 16, 0);
+        let last = self.selected();
+        self.with_token(SUBMITTED, last, 16, 0);
+        self.status(0, 0b10, 17);
+        self.with_token(TRANSMITTED, last, 18, 0);
+        self.shown(1);
+        self.push(SUBMITTED_MESSAGE, &[&token_octets(last)]);
+        self.clocked(PREPARE, 19, 0);
+        let first = self.selected();
+        self.status(0, 0b1001, 20);
+        self.status(0, 0b1001, 21);
+        self.with_token(SUBMITTED, first, 21, 0);
+        self.shown(1);
+        let third = self.sent(22);
+        self.with_token(TRANSMITTED, third, 22, 0);
+        let fourth = self.sent(23);
+        self.with_token(TRANSMITTED, fourth, 24, 0);
+        self.with_token(TRANSMITTED, first, 24, 0);
+        self.shown(1);
+        self.clocked(PREPARE, 24, 0);
+        self.status(0, 0b1111, 25);
+        self.popped(1);
+        self.push(SENDER_ECHOES, &[&[0]]);
+    }
+    /// A waiting order of three frames is put first: its last frame again; then a status that shows none.
+    fn none_heard(&mut self) {
+        self.made(1, 0, 0, 0);
+        self.enqueued(to(1, THREE), 10, 0);
+        let sent = [(); 3].map(|()| self.sent(10));
+        for token in sent {
+            self.with_token(TRANSMITTED, token, 11, 0);
+        }
+        self.echoed(PRIORITIZED, 0, 12, 0);
+        let last = self.selected();
+        self.with_token(SUBMITTED, last, 12, 0);
+        self.with_token(TRANSMITTED, last, 12, 0);
+        self.status(0, 0, 13);
+        self.shown(1);
+    }
+    /// A restart that is asked for and one that is due in the same walk, with a status kept and a frame selected; then two
+    /// that are due when a frame of one is confirmed.
+    fn forgotten(&mut self) {
+        self.made(4, 1000, 0, 0);
+        self.enqueued(to(1, THREE), 10, 0);
+        self.enqueued(to(2, ONE), 10, 0);
+        for block in [10, 10, 11] {
+            self.sent(block);
+        }
+        self.status(0, 0b1, 12);
+        self.clocked(PREPARE, 12, 0);
+        self.echoed(INTERRUPT, 0, 74, 0);
+        self.shown(2);
+        let token = self.sent(74);
+        let owner = self.live(1).owner;
+        for generation in [token.generation, owner] {
+            let token = Token {
+                generation,
+                ..token
+            };
+            self.push(SUBMITTED_MESSAGE, &[&token_octets(token)]);
+        }
+        self.sent(75);
+        self.clocked(PREPARE, 76, 0);
+        self.with_token(TRANSMITTED, token, 139, 0);
+        self.shown(2);
+    }
+    /// What is selected stays when others expire, are complete, replaced or restarted; it goes when its own transfer does.
+    fn others_stay(&mut self) {
+        self.made(4, 0, 0, 0);
+        let until = |who, deadline_ms| Asked {
+            deadline_ms,
+            ..to(who, ONE)
+        };
+        for (who, deadline_ms) in [(1, 200), (2, FAR), (3, 300)] {
+            self.enqueued(until(who, deadline_ms), 10, 100);
+        }
+        self.echoed(PRIORITIZED, 1, 10, 100);
+        let token = self.selected();
+        self.clocked(SENDER_ADVANCE, 11, 200);
+        self.clocked(PREPARE, 11, 200);
+        self.lived(SENDER_STATUS, &[&[99], &[0; 4], &clock_octets(11, 300)]);
+        self.popped(2);
+        self.enqueued(until(4, 400), 11, 300);
+        self.with_token(SUBMITTED, token, 12, 300);
+        self.clocked(PREPARE, 12, 300);
+        self.with_token(TRANSMITTED, token, 13, 300);
+        self.lived(SENDER_STATUS, &[&[1], &[0; 4], &clock_octets(14, 300)]);
+        self.popped(1);
+        self.enqueued(to(5, ONE), 14, 300);
+        self.enqueued(to(5, ONE), 14, 300);
+        self.echoed(INTERRUPT, 5, 14, 300);
+        self.clocked(PREPARE, 14, 300);
+        self.clocked(SENDER_ADVANCE, 15, 400);
+        self.clocked(PREPARE, 15, 400);
+        self.enqueued(until(5, 600), 15, 400);
+        self.shown(1);
+        self.lived(CANCEL_ALL, &[]);
+        self.popped(4);
+        self.push(SENDER_ECHOES, &[&[0]]);
+    }
+    /// An overdue transfer is live until `advance`: asked for, counted, cancelled. Clocks of which one alone goes back, and
+    /// echoes over 127.
+    fn overdue(&mut self) {
+        self.made(1, 0, 0, 0);
+        let until = |deadline_ms| Asked {
+            deadline_ms,
+            ..to(1, ONE)
+        };
+        self.enqueued(until(50), 10, 10);
+        self.echoed(INTERRUPT, 9, 11, 50);
+        self.push(PENDING, &[]);
+        self.push(CONTAINS, &[&identity_operand(0, 1)]);
+        self.push(HAS_ECHO, &[&[0]]);
+        self.push(IDENTITY_FOR_ECHO, &[&[0]]);
+        self.push(READY, &[]);
+        self.push(CAN_ENQUEUE, &[&clock_octets(11, 50)]);
+        self.enqueued(to(2, ONE), 11, 50);
+        self.lived(CANCEL_ALL, &[]);
+        self.push(CAN_ENQUEUE, &[&clock_octets(11, 50)]);
+        self.popped(1);
+        self.push(CAN_ENQUEUE, &[&clock_octets(5, 5)]);
+        self.enqueued(until(100), 11, 50);
+        self.echoed(PRIORITIZED, 129, 11, 50);
+        self.clocked(PREPARE, 11, 50);
+        let token = self.selected();
+        self.with_token(SUBMITTED, token, 11, 50);
+        self.clocked(SENDER_ADVANCE, 10, 100);
+        self.clocked(SENDER_ADVANCE, 12, 49);
+        self.echoed(INTERRUPT, 129, 11, 50);
+        self.lived(SENDER_STATUS, &[&[129], &[0; 4], &clock_octets(11, 50)]);
+        self.with_token(TRANSMITTED, Token { frame: 1, ..token }, 12, 100);
+        self.push(SUBMITTED_MESSAGE, &[&token_octets(token)]);
+        self.push(RADIO_ACTIVE, &[]);
+        self.clocked(SENDER_ADVANCE, 12, 100);
+        self.popped(1);
+        self.enqueued(until(200), 12, 100);
+        self.echoed(INTERRUPT, 9, 12, 200);
+        self.lived(CANCEL, &[&identity_operand(0, 1)]);
+        self.popped(1);
+        self.enqueued(until(201), 12, 200);
+        self.echoed(PRIORITIZED, 3, 12, 201);
+        self.popped(1);
+        self.clocked(PREPARE, 12, 201);
+    }
+    /// Identities of other types with one value; the lowest place that is free, with as many events as leave no room in sum.
+    fn same_number(&mut self) {
+        self.made(3, 0, 0, 0);
+        for who in [(0, 1), (1, 1), (0, 2)] {
+            self.enqueued(Asked { who, ..to(1, ONE) }, 10, 0);
+        }
+        for kind in [2, 1] {
+            self.push(CONTAINS, &[&identity_operand(kind, 1)]);
+        }
+        self.push(IDENTITY_FOR_ECHO, &[&[1]]);
+        for kind in [2, 1, 0] {
+            self.lived(CANCEL, &[&identity_operand(kind, 1)]);
+        }
+        self.push(CAN_ENQUEUE, &[&clock_octets(10, 0)]);
+        let asked = Asked {
+            who: (2, 3),
+            channel: SMSCH,
+            ..to(1, THREE)
+        };
+        self.enqueued(asked, 10, 0);
+        self.shown(2);
+        self.lived(CANCEL_ALL, &[]);
+        self.popped(4);
+    }
+    /// Echoes with free ones on both sides of the next: 5 alone is free at 50; 2, 3, 9 and 12 are at 100; the one before the
+    /// next alone is at 200.
+    fn around(&mut self) {
+        self.made(8, 0, 5, 0);
+        let clock = clock_octets(10, 0);
+        let runs = [
+            (1000, 2),
+            (100, 2),
+            (1000, 1),
+            (50, 1),
+            (1000, 3),
+            (100, 1),
+            (1000, 2),
+            (100, 1),
+            (1000, 115),
+        ];
+        for (deadline_ms, count) in runs {
+            let asked = Asked {
+                deadline_ms,
+                ..to(9, ONE)
+            };
+            self.push(ENQUEUE, &[&asked.operands(), &clock]);
+            for _ in 1..count {
+                self.push(INTERRUPT, &[&[self.live(0).echo], &clock]);
+            }
+            self.push(CANCEL, &[&identity_operand(0, 9)]);
+            self.popped(1);
+        }
+        for now_ms in [49, 50] {
+            self.push(CAN_ENQUEUE, &[&clock_octets(10, now_ms)]);
+        }
+        self.enqueued(to(1, ONE), 10, 50);
+        self.enqueued(to(2, ONE), 10, 99);
+        self.enqueued(to(2, ONE), 10, 100);
+        for (block, now_ms) in [(10, 99), (4, 100)] {
+            self.push(CAN_ENQUEUE, &[&clock_octets(block, now_ms)]);
+        }
+        self.echoed(INTERRUPT, 5, 10, 100);
+        for (who, deadline_ms) in [(3, FAR), (4, 200), (5, FAR), (2, FAR)] {
+            let asked = Asked {
+                deadline_ms,
+                ..to(who, ONE)
+            };
+            self.enqueued(asked, 10, 100);
+        }
+        self.shown(4);
+        self.echoed(PRIORITIZED, 9, 11, 100);
+        self.echoed(INTERRUPT, 9, 11, 100);
+        self.popped(1);
+        self.enqueued(to(5, ONE), 11, 200);
+        self.push(SENDER_ECHOES, &[&[0]]);
+    }
+    /// One that has frames queued and one in flight is served first from 16 blocks on; its last frame is queued again 16
+    /// blocks after it, also while another's is selected, and not while it is in flight; with a status 64 blocks count from
+    /// that.
+    fn later_frames(&mut self) {
+        self.made(4, 0, 0, 0);
+        self.enqueued(to(1, THREE), 10, 0);
+        self.enqueued(to(2, ONE), 10, 0);
+        let begin = self.sent(10);
+        self.clocked(REFRESH, 25, 0);
+        self.clocked(REFRESH, 26, 0);
+        self.with_token(TRANSMITTED, begin, 26, 0);
+        let sent = [26, 27].map(|block| {
+            self.echoed(PRIORITIZED, 0, block, 0);
+            let token = self.selected();
+            self.with_token(SUBMITTED, token, block, 0);
+            token
+        });
+        self.clocked(REFRESH, 43, 0);
+        for token in sent {
+            self.with_token(TRANSMITTED, token, 43, 0);
+        }
+        self.clocked(PREPARE, 43, 0);
+        self.clocked(REFRESH, 43, 0);
+        self.shown(2);
+        self.echoed(PRIORITIZED, 0, 44, 0);
+        let last = self.selected();
+        self.with_token(SUBMITTED, last, 44, 0);
+        self.status(0, 0b11, 45);
+        self.clocked(SENDER_ADVANCE, 108, 0);
+        self.with_token(TRANSMITTED, last, 108, 0);
+        self.popped(1);
+        // Fewer than 512 tokens left: no clock moves.
+        self.made(2, 0, 0, LAST - 511);
+        self.clocked(SENDER_ADVANCE, 5, 5);
     }
 }
 /// What is asked for; the completion is 7 and the value of the identity.
