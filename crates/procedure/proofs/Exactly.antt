@@ -127,9 +127,9 @@ module _ (p : ArqProcedure) (block : ℕ) (xs b : List ℕ) where
       pushed = pushFrame (p .receiver) b f
 
       heard-by : {o : Outcome Reception} → pushed .outcome ≡ o → receiveOf p block xs b ≡ byAnswer (byKind (f .kind) true false) o (made (pushed .receiver) (clocked timer block)) (pushed .buffer)
-      heard-by e =
+      heard-by {o} e =
           goes ∙ ap (decoded (withTimer p (clocked timer block)) b) d
-          ∙ ap (λ (o : Outcome Reception). byAnswer (byKind (f .kind) true false) o (made (pushed .receiver) (clocked timer block)) (pushed .buffer)) e
+          ∙ ap (λ (x : Outcome Reception). byAnswer (byKind (f .kind) true false) x (made (pushed .receiver) (clocked timer block)) (pushed .buffer)) e
 
       -- a frame that the receiver refuses or Ignores: its number, or Ignored, with the receiver and the buffer that the push left
       pub receive-passes-on : (n : ℕ) → pushed .outcome ≡ refuses n
@@ -190,7 +190,7 @@ module _ (p : ArqProcedure) (b : ℕ) where
     due-by : {z : Bool} → completeOf (p .receiver) ≡ z
         → advanceOf p b ≡ (let d = dueOf (clocked before b) in cond z (says None (withTimer p (clocked before b))) (follows (d .action) (made (p .receiver) (d .timer))))
     unfolding advanceOf
-    due-by c = admits-on dueAt ∙ ap (λ (z : Bool). let d = dueOf (clocked before b) in cond z (says None (withTimer p (clocked before b))) (follows (d .action) (made (p .receiver) (d .timer)))) c
+    due-by {z} c = admits-on dueAt ∙ ap (λ (y : Bool). let d = dueOf (clocked before b) in cond y (says None (withTimer p (clocked before b))) (follows (d .action) (made (p .receiver) (d .timer)))) c
 
     -- a complete message waits for its status alone: None for ever, whatever the timer's state
     pub advance-complete : completeOf (p .receiver) ≡ true → advanceOf p b ≡ tells None (made (p .receiver) (goesTo before (before .state) b (before .«unsolicited_pending»)))
