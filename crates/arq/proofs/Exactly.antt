@@ -2,11 +2,11 @@
 use mathlib.Core.Path.{_≡_, refl, sym, ap, subst, _∙_}
 use mathlib.Core.Bool.{Bool, true, false, cond, not, _||_}
 use mathlib.Core.List.{List, [], _∷_, _++_}
-use Prim.Native.Nat.{ℕ, zero, suc, _+_, _-_, _*_, _%_, _≤_, _<_, min}
+use Prim.Native.Nat.{ℕ, zero, suc, _+_, _-_, _*_, _%_, _≤_, min}
 use native.Mathlib.Omega.{arith}
 use lib.Dec.{eqb, ltb}
 use lib.ListN.{length, take, drop, length-take}
-use borrow.Author.Tests.{eqb-true, not-false, ltb-false, ltb-true}
+use borrow.Author.Tests.{eqb-true, not-false, ltb-false}
 use Rattle.field.specs.Bits.{bits, bitsOf, octets, field}
 use Rattle.field.specs.Layout.{layout, zeros, upTo, anySet}
 use Rattle.field.proofs.Laws.{bits-mod, field-lt, length-bitsOf, length-octets}

@@ -4,7 +4,7 @@
 use mathlib.Core.Path.{_≡_}
 use mathlib.Core.Bool.{Bool, false, cond, not, _||_}
 use mathlib.Core.List.{List, [], _∷_}
-use Prim.Native.Nat.{ℕ, zero, suc, _+_, _-_, _*_, _%_, min}
+use Prim.Native.Nat.{ℕ, _+_, _-_, _*_, _%_, min}
 use lib.Dec.{eqb, ltb}
 use lib.ListN.{length, take, drop, replicate}
 use Rattle.field.specs.Bits.{bit, bitsOf, field}

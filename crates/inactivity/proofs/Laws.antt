@@ -1,14 +1,14 @@
 -- Each call of the timer on every state: its answer, and all five fields afterwards, said by the fields themselves. A definition that is
 -- changed, and its code alike, meets these no more. Assumes nothing.
-use mathlib.Core.Path.{_≡_, refl, sym, ap, _∙_}
+use mathlib.Core.Path.{_≡_, refl, ap, _∙_}
 use mathlib.Core.Logic.{_↔_}
 use mathlib.Core.Bool.{Bool, true, false, cond, not, _&&_}
 use Prim.Native.Nat.{ℕ, _+_, _-_, _≤_, _<_}
 use native.Mathlib.Omega.{arith}
-use lib.Dec.{eqb, ltb, leb}
+use lib.Dec.{leb}
 use borrow.Author.Tests.{lt-ltb, le-ltb, lt-leb, le-leb, eqb-true, eq-eqb, ne-eqb}
 use Rattle.token.specs.Token.{numberAfter, fewerThan}
-use Rattle.spach.specs.Refusal.{Outcome, gives, refuses, After, onward}
+use Rattle.spach.specs.Refusal.{gives, refuses, After, onward}
 use Rattle.inactivity.specs.declared.TransactionToken.{TransactionToken}
 use Rattle.inactivity.specs.declared.InactivityAction.{InactivityAction}
 use Rattle.inactivity.specs.declared.InactivityAction.the-variants.{None, RequestUnsolicitedStatus, Terminate}
@@ -18,7 +18,7 @@ use Rattle.inactivity.specs.declared.State.{State}
 use Rattle.inactivity.specs.declared.State.the-variants.{Idle, Waiting, SendingUnsolicited, FinalWait}
 use Rattle.inactivity.specs.declared.Turn.{Turn}
 use Rattle.inactivity.specs.declared.ArqInactivity.{ArqInactivity}
-use Rattle.inactivity.specs.Inactivity.{turn, ownsOf, clocked, inState, renewed, admitted, acts, isIdle, due, resultAt, solicitedAt, solicitedBy, unsolicitedAt, unsolicitedBy, sentFrom, reported, resetOf, observeOf, receivedFrameOf, advanceOf, unsolicitedOf, solicitedOf}
+use Rattle.inactivity.specs.Inactivity.{turn, ownsOf, clocked, inState, renewed, admitted, acts, isIdle, due, solicitedAt, solicitedBy, unsolicitedAt, unsolicitedBy, sentFrom, reported, resetOf, observeOf, receivedFrameOf, advanceOf, unsolicitedOf, solicitedOf}
 
 -- the timer at block b, in another state, with an unsolicited status pending or not, under the same token
 abbrev pub goesTo : ArqInactivity → State → ℕ → Bool → ArqInactivity

@@ -1,11 +1,9 @@
 -- Each call of the procedure on every state: its answer and the procedure afterwards, said by the fields themselves, over what the receiver
 -- and the timer do by their own laws. A definition that is changed, and its code alike, meets these no more. Assumes nothing.
-use mathlib.Core.Path.{_≡_, refl, sym, ap, subst, _∙_}
+use mathlib.Core.Path.{_≡_, refl, sym, ap, _∙_}
 use mathlib.Core.Bool.{Bool, true, false, cond}
 use mathlib.Core.List.{List}
 use Prim.Native.Nat.{ℕ, _≤_, _<_}
-use native.Mathlib.Omega.{arith}
-use lib.Dec.{ltb}
 use lib.ListN.{length}
 use borrow.Author.Tests.{lt-ltb, le-ltb, eq-eqb, ne-eqb}
 use Rattle.token.specs.Token.{fewerThan}
@@ -25,7 +23,6 @@ use Rattle.receiver.specs.declared.Reception.{Reception}
 use Rattle.receiver.specs.declared.Reception.the-variants as receptions
 use Rattle.receiver.specs.Receiver as R
 use Rattle.receiver.specs.Receiver.{pushFrame, statusOf, completeOf}
-use Rattle.inactivity.specs.declared.TransactionToken.{TransactionToken}
 use Rattle.inactivity.specs.declared.ArqInactivity.{ArqInactivity}
 use Rattle.inactivity.specs.declared.State.the-variants.{Waiting}
 use Rattle.inactivity.specs.declared.Turn.{Turn}
@@ -41,14 +38,12 @@ use Rattle.procedure.specs.declared.StatusKind.the-variants.{Solicited, 
 use Rattle.procedure.specs.declared.StatusTransmission.{StatusTransmission}
 use Rattle.procedure.specs.declared.Transmission.{Transmission}
 use Rattle.procedure.specs.declared.Transmission.the-variants as transmissions
-use Rattle.procedure.specs.declared.ReceiveEvent.{ReceiveEvent}
 use Rattle.procedure.specs.declared.ReceiveEvent.the-variants as receives
-use Rattle.procedure.specs.declared.TimerEvent.{TimerEvent}
 use Rattle.procedure.specs.declared.TimerEvent.the-variants.{None, SendStatus, Terminated}
 use Rattle.procedure.specs.declared.SendEvent.{SendEvent}
 use Rattle.procedure.specs.declared.SendEvent.the-variants as sends
 use Rattle.procedure.specs.declared.ArqProcedure.{ArqProcedure}
-use Rattle.procedure.specs.Procedure.{Out, withTimer, admits, says, resetOf, timed, polled, endsUnpolled, accepted, byAnswer, pushes, decoded, letThrough, thenHears, receiveOf, follows, dueAt, advanceOf, reported, sentAt, statusSentOf}
+use Rattle.procedure.specs.Procedure.{Out, withTimer, admits, says, resetOf, timed, polled, endsUnpolled, accepted, byAnswer, decoded, receiveOf, follows, dueAt, advanceOf, reported, sentAt, statusSentOf}
 
 -- a receiver and a timer
 abbrev made : ArqReassembler → ArqInactivity → ArqProcedure
