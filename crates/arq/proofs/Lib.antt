@@ -8,4 +8,5 @@ pub mod Cuts
 pub mod Laid
 pub mod Round
 pub mod Again
+pub mod Exactly
 pub mod Theorems

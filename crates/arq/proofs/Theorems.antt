@@ -1,24 +1,29 @@
 -- What holds of encode, decode and the cut, beside their definitions. Assumes nothing.
 use mathlib.Core.Path.{_≡_}
-use mathlib.Core.List.{List}
-use Prim.Native.Nat.{ℕ, _+_, _*_, _^_, _≤_, _<_}
+use mathlib.Core.Bool.{not}
+use mathlib.Core.List.{List, _++_}
+use Prim.Native.Nat.{ℕ, suc, _+_, _-_, _*_, _^_, _≤_, _<_}
+use lib.Dec.{ltb}
 use lib.ListN.{length, take}
 use Rattle.field.specs.Bits.{Octets, bitsOf, octets, field, put}
-use Rattle.field.specs.Layout.{upTo}
+use Rattle.field.specs.Layout.{layout, zeros, upTo}
+use Rattle.rach.specs.Identity.{typeOf, widthOf}
 use Rattle.rach.specs.declared.MobileIdentity.{MobileIdentity}
-use Rattle.spach.specs.Refusal.{gives}
-use Rattle.arq.specs.declared.FrameKind.the-variants.{Begin}
+use Rattle.spach.specs.Refusal.{gives, refuse}
+use Rattle.arq.specs.declared.FrameKind.the-variants.{Begin, Continue}
 use Rattle.arq.specs.declared.ArqHeader.{ArqHeader}
 use Rattle.arq.specs.declared.ArqFrame.{ArqFrame}
 use Rattle.arq.specs.declared.PackedFrame.{PackedFrame}
 use Rattle.arq.specs.Frame.{room}
 use Rattle.arq.specs.Encode.{encodeOf}
 use Rattle.arq.specs.Decode.{decodeOf}
-use Rattle.arq.specs.Cut.{continues, frameOf}
+use Rattle.arq.specs.Cut.{continues, countOf, frameOf}
 use Rattle.arq.specs.Round.{thereAndBack, normal, widened, carried}
 use Rattle.arq.proofs.Cuts.{carries, carries-all, carries-octets, count-holds, count-least, count-most}
 use Rattle.arq.proofs.Round.{encode-back, cut-back}
 use Rattle.arq.proofs.Again.{decode-again, decode-same, decode-same-begin}
+use Rattle.arq.specs.Exactly.{said, table, beginTable, continueTable, cutTable, decodeTable, beginBits, continueBits, ReadAlike, GivenOut, CutBegin, CutContinue}
+use Rattle.arq.proofs.Exactly.{begin-said, continue-said, begin-lays, continue-lays, encode-alike, decode-said, decode-heard, count-said, frame-said, count-fits, frame-out, begin-given, continue-given}
 
 -- What encode accepts is decoded to the same frame, as far as it is read. The premise holds of every frame: its octet
 -- count is an octet.
@@ -63,3 +68,60 @@ cut-least = count-least
 -- "255 octets, each type: 27 frames": no message has more
 pub cut-most : (i : MobileIdentity) (n : ℕ) → n ≤ 255 → 1 + continues i n ≤ 27
 cut-most = count-most
+
+-- ---- held to 01 over all inputs, in the words of specs/Exactly.antt: a definition that is changed, and its code alike, meets these no more
+
+-- *Encode* refuses exactly so, a Begin and a Continue
+pub encode-refuses-begin : (f : ArqFrame) → f .kind ≡ Begin → said (encodeOf f) ≡ table (beginTable f) (gives tt)
+encode-refuses-begin = begin-said
+
+pub encode-refuses-continue : (f : ArqFrame) → f .kind ≡ Continue → said (encodeOf f) ≡ table (continueTable f) (gives tt)
+encode-refuses-continue = continue-said
+
+-- what it gives: the table, the data bits that are read, zeros up to 109 bits, and three bits of padding
+pub encode-lays-begin : (f : ArqFrame) (p : PackedFrame) → f .kind ≡ Begin → encodeOf f ≡ gives p
+    → bitsOf (p .octets) ≡ layout (beginBits f) ++ (upTo (75 - widthOf (typeOf (f .identity))) (take (f .«begin_bits») (bitsOf (f .«begin_data»))) ++ zeros 3)
+encode-lays-begin = begin-lays
+
+pub encode-lays-continue : (f : ArqFrame) (p : PackedFrame) → f .kind ≡ Continue → encodeOf f ≡ gives p
+    → bitsOf (p .octets) ≡ layout (continueBits f) ++ (upTo 79 (take 79 (bitsOf (f .«continue_data»))) ++ zeros 3)
+encode-lays-continue = continue-lays
+
+-- "bits past the count are not read", nor what only the other kind has: frames that agree on what is read are answered alike
+pub encode-reads : (f g : ArqFrame) → ReadAlike f g → encodeOf f ≡ encodeOf g
+encode-reads = encode-alike
+
+-- *Decode* refuses exactly so, in this order
+pub decode-refuses : (xs : List ℕ) → said (decodeOf xs) ≡ decodeTable xs
+decode-refuses = decode-said
+
+-- "In every frame given out, unread bits are zero and so are fields that only the other kind has", by decode
+pub decode-gives-out : (xs : List ℕ) (f : ArqFrame) → decodeOf xs ≡ gives f → GivenOut f
+decode-gives-out xs f e = decode-heard xs f e .0
+
+-- a Begin that was decoded has as many data bits as it has room for
+pub decode-fills : (xs : List ℕ) (f : ArqFrame) → decodeOf xs ≡ gives f → f .kind ≡ Begin → f .«begin_bits» ≡ 75 - widthOf (typeOf (f .identity))
+decode-fills xs f e = decode-heard xs f e .1
+
+-- *Cut*: both calls refuse exactly so, and frame k past the count besides
+pub count-refuses : (h : ArqHeader) (i : MobileIdentity) (m : List ℕ) → countOf h i m ≡ table (cutTable h i m) (gives (1 + continues i (length m)))
+count-refuses = count-said
+
+pub frame-refuses : (h : ArqHeader) (i : MobileIdentity) (m : List ℕ) (k : ℕ) → said (frameOf h i m k) ≡ table (cutTable h i m) (refuse (not (ltb k (1 + continues i (length m)))) 12 (gives tt))
+frame-refuses = frame-said
+
+-- the count that is given: a Begin and the least number of Continues that with it have room for the message
+pub count-exactly : (h : ArqHeader) (i : MobileIdentity) (m : List ℕ) (c : ℕ) → countOf h i m ≡ gives c
+    → (1 ≤ c) × (8 * length m ≤ 75 - widthOf (typeOf i) + 79 * (c - 1)) × ((k : ℕ) → 8 * length m ≤ 75 - widthOf (typeOf i) + 79 * k → c ≤ 1 + k)
+count-exactly = count-fits
+
+-- the frames that are given: unread bits and the other kind's fields zero
+pub cut-gives-out : (h : ArqHeader) (i : MobileIdentity) (m : List ℕ) (k : ℕ) (f : ArqFrame) → frameOf h i m k ≡ gives f → GivenOut f
+cut-gives-out = frame-out
+
+-- the Begin, and Continue k: the header goes into each as it is
+pub cut-gives-begin : (h : ArqHeader) (i : MobileIdentity) (m : List ℕ) (f : ArqFrame) → frameOf h i m 0 ≡ gives f → CutBegin h i m f
+cut-gives-begin = begin-given
+
+pub cut-gives-continue : (h : ArqHeader) (i : MobileIdentity) (m : List ℕ) (k : ℕ) (f : ArqFrame) → frameOf h i m (suc k) ≡ gives f → CutContinue h i m k f
+cut-gives-continue = continue-given

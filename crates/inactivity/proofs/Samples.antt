@@ -79,3 +79,51 @@ pub passed : (newOf 7 ≡ record { state = Idle; «last_block» = 0; «unsolicit
     × (receivedFrameOf (left 3) 132 .outcome ≡ gives tt)
 unfolding resetOf observeOf receivedFrameOf advanceOf unsolicitedOf solicitedOf
 passed = (refl, refl, refl, refl, refl, refl, refl, refl, refl, refl, refl, refl, refl, refl, refl)
+
+-- every call in every state that the lists above leave out; each is the Rust's answer to the same calls
+abbrev at : ℕ → ℕ → ArqInactivity
+at b since = record { state = Waiting since; «last_block» = b; «unsolicited_pending» = false; transaction = record { 0 = 7 }; «next_token» = 8 }
+
+abbrev final : ℕ → ArqInactivity
+final b = record { state = FinalWait 150; «last_block» = b; «unsolicited_pending» = false; transaction = record { 0 = 7 }; «next_token» = 8 }
+
+abbrev pending : ℕ → ℕ → ArqInactivity
+pending b since = record { state = Waiting since; «last_block» = b; «unsolicited_pending» = true; transaction = record { 0 = 7 }; «next_token» = 8 }
+
+abbrev sending : ℕ → ArqInactivity
+sending b = record { state = SendingUnsolicited; «last_block» = b; «unsolicited_pending» = true; transaction = record { 0 = 7 }; «next_token» = 8 }
+
+abbrev anew : ℕ → ArqInactivity
+anew b = record { state = Idle; «last_block» = b; «unsolicited_pending» = false; transaction = record { 0 = 8 }; «next_token» = 9 }
+
+pub visited : (receivedFrameOf waits 120 ≡ done (at 120 120))
+    × (receivedFrameOf heard 145 ≡ done (pending 145 145))
+    × (receivedFrameOf told 160 ≡ done (at 160 160))
+    × (receivedFrameOf told 150 ≡ done (at 150 150))
+    × (observeOf asked 140 ≡ done (sending 140))
+    × (observeOf heard 150 ≡ done (pending 150 140))
+    × (observeOf told 160 ≡ done (final 160))
+    × (advanceOf waits 131 ≡ acts (turn None (at 131 100)))
+    × (advanceOf waits 132 ≡ acts (turn RequestUnsolicitedStatus (sending 132)))
+    × (advanceOf asked 900 ≡ acts (turn None (sending 900)))
+    × (advanceOf heard 900 ≡ acts (turn None (pending 900 140)))
+    × (advanceOf told 181 ≡ acts (turn None (final 181)))
+    × (advanceOf told 182 ≡ acts (turn Terminate (anew 182)))
+    × (unsolicitedOf asked (record { 0 = 7 }) 150 Sent ≡ acts (turn None (final 150)))
+    × (unsolicitedOf heard (record { 0 = 7 }) 150 Sent ≡ acts (turn None (at 150 150)))
+    × (unsolicitedOf heard (record { 0 = 7 }) 150 Failed ≡ acts (turn Terminate (anew 150)))
+    × (unsolicitedOf told (record { 0 = 7 }) 160 Sent ≡ acts (turn None (final 160)))
+    × (unsolicitedOf told (record { 0 = 7 }) 160 Failed ≡ acts (turn None (final 160)))
+    × (solicitedOf waits (record { 0 = 7 }) 120 Sent ≡ acts (turn None (at 120 120)))
+    × (solicitedOf waits (record { 0 = 7 }) 120 Failed ≡ acts (turn Terminate (anew 120)))
+    × (solicitedOf asked (record { 0 = 7 }) 150 Sent ≡ acts (turn None (pending 150 150)))
+    × (solicitedOf heard (record { 0 = 7 }) 150 Sent ≡ acts (turn None (pending 150 150)))
+    × (solicitedOf heard (record { 0 = 7 }) 150 Failed ≡ acts (turn Terminate (anew 150)))
+    × (solicitedOf told (record { 0 = 7 }) 160 Sent ≡ acts (turn None (at 160 160)))
+    × (solicitedOf told (record { 0 = 7 }) 160 Failed ≡ acts (turn Terminate (anew 160)))
+    × (solicitedOf told (record { 0 = 6 }) 1 Failed ≡ acts (turn None told))
+    × (resetOf waits ≡ done (anew 100))
+    × (resetOf heard ≡ done (anew 140))
+    × (resetOf told ≡ done (anew 150))
+unfolding resetOf observeOf receivedFrameOf advanceOf unsolicitedOf solicitedOf
+visited = (refl, refl, refl, refl, refl, refl, refl, refl, refl, refl, refl, refl, refl, refl, refl, refl, refl, refl, refl, refl, refl, refl, refl, refl, refl, refl, refl, refl, refl)

@@ -16,6 +16,7 @@ use Rattle.receiver.specs.declared.ArqReassembler.{ArqReassembler}
 use Rattle.receiver.specs.declared.Request.{Request}
 use Rattle.receiver.specs.declared.Request.the-variants as requests
 use Rattle.inactivity.specs.declared.ArqInactivity.{ArqInactivity}
+use Rattle.inactivity.specs.declared.State.the-variants.{Waiting}
 use Rattle.receiver.specs.declared.StatusAnswer.the-variants as statuses
 use Rattle.receiver.specs.Receiver.{statusAnswer, completeOf}
 use Rattle.inactivity.specs.Inactivity.{clocked}
@@ -100,3 +101,38 @@ polled-token p block xs b m x =
       where
         told : {y : StatusTransmission} → gives (receives.Accepted n (transmissions.Status y)) ≡ gives (receives.Accepted m (transmissions.Status x)) → x .token ≡ y .token
         told {y} w = let z : y ≡ x = cc in ap (λ (v : StatusTransmission). v .token) (sym z)
+
+-- and it is the last one exactly if the message is complete afterwards
+pub polled-complete : (p : ArqProcedure) (block : ℕ) (xs b : List ℕ) (m : Delivery) (x : StatusTransmission) → receiveOf p block xs b .outcome ≡ gives (receives.Accepted m (transmissions.Status x))
+    → x .«complete_at_poll» ≡ completeOf (receiveOf p block xs b .procedure .receiver)
+unfolding accepted
+polled-complete p block xs b m x =
+    receive-ways (λ o q. o ≡ gives (receives.Accepted m (transmissions.Status x)) → x .«complete_at_poll» ≡ completeOf (q .receiver)) p block xs b (λ n e. absurd (let z : _≡_ {A = ℕ} 0 1 = cc in omega arith))
+    (λ q n c e. absurd (let z : _≡_ {A = ℕ} 0 1 = cc in omega arith)) (λ q c e. absurd (let z : _≡_ {A = ℕ} 0 1 = cc in omega arith)) (λ q c f d n r s h. by q (byKind (f .kind) true false) n r s)
+  where
+    by : (q : ArqProcedure) (begin : Bool) (n : Delivery) (r : Request) (s : ArqReassembler) → let a = accepted begin n r (record { receiver = s; inactivity = q .inactivity }) in a .outcome ≡ gives (receives.Accepted m (transmissions.Status x)) → x .«complete_at_poll» ≡ completeOf (a .state .receiver)
+    by q begin n requests.Nothing s e = absurd (let z : _≡_ {A = ℕ} 0 1 = cc in omega arith)
+    by q begin n (requests.Status r) s e = told e
+      where
+        told : {y : StatusTransmission} → gives (receives.Accepted n (transmissions.Status y)) ≡ gives (receives.Accepted m (transmissions.Status x)) → x .«complete_at_poll» ≡ y .«complete_at_poll»
+        told {y} w = let z : y ≡ x = cc in ap (λ (v : StatusTransmission). v .«complete_at_poll») (sym z)
+
+-- a frame that was accepted, after which a transaction is held whose message is not complete
+waits-by : (p : ArqProcedure) (begin complete : Bool) (r : Request) → completeOf (p .receiver) ≡ complete → let q = endsUnpolled r complete (withTimer p (timed begin complete (p .inactivity))) in activeOf q ≡ true → completeOf (q .receiver) ≡ false
+    → q .inactivity .state ≡ Waiting (p .inactivity .«last_block»)
+waits-by p begin true requests.Nothing e a c = absurd (let w : _≡_ {A = ℕ} 0 1 = cc in omega arith)
+waits-by p begin true (requests.Status r) e a c = absurd (let z : true ≡ false = sym e ∙ c in let w : _≡_ {A = ℕ} 0 1 = cc in omega arith)
+waits-by p true false requests.Nothing e a c = refl
+waits-by p false false requests.Nothing e a c = refl
+waits-by p true false (requests.Status r) e a c = refl
+waits-by p false false (requests.Status r) e a c = refl
+
+-- such a frame begins a new wait at its block, whatever the timer's state was
+pub accepted-waits : (p : ArqProcedure) (block : ℕ) (xs b : List ℕ) (m : Delivery) (x : Transmission) → receiveOf p block xs b .outcome ≡ gives (receives.Accepted m x)
+    → let q = receiveOf p block xs b .procedure in activeOf q ≡ true → completeOf (q .receiver) ≡ false → q .inactivity .state ≡ Waiting block
+unfolding accepted
+accepted-waits p block xs b m x =
+    receive-ways (λ o q. o ≡ gives (receives.Accepted m x) → activeOf q ≡ true → completeOf (q .receiver) ≡ false → q .inactivity .state ≡ Waiting block) p block xs b
+    (λ n e. absurd (let z : _≡_ {A = ℕ} 0 1 = cc in omega arith)) (λ q n c e. absurd (let z : _≡_ {A = ℕ} 0 1 = cc in omega arith)) (λ q c e. absurd (let z : _≡_ {A = ℕ} 0 1 = cc in omega arith))
+    (λ q c f d n r s h e. at (λ z. let a = accepted (byKind (f .kind) true false) n r (record { receiver = s; inactivity = z .inactivity }) .state in activeOf a ≡ true → completeOf (a .receiver) ≡ false → a .inactivity .state ≡ Waiting block) c
+    (waits-by (record { receiver = s; inactivity = clocked (p .inactivity) block }) (byKind (f .kind) true false) (completeOf s) r refl))

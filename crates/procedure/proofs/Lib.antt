@@ -1,5 +1,6 @@
 pub mod Apart
 pub mod Calls
+pub mod Exactly
 pub mod History
 pub mod Kept
 pub mod Laws

@@ -3,7 +3,7 @@
 use mathlib.Core.Path.{_≡_, refl}
 use mathlib.Core.Bool.{Bool, true, false}
 use mathlib.Core.List.{List, [], _∷_, _++_}
-use Prim.Native.Nat.{ℕ, _-_}
+use Prim.Native.Nat.{ℕ, _+_, _-_}
 use native.Mathlib.Omega.{arith}
 use lib.Count.{ones, onesIn}
 use lib.ListN.{replicate}
@@ -27,7 +27,9 @@ use Rattle.receiver.specs.declared.Delivery.the-variants as deliveries
 use Rattle.receiver.specs.Receiver as R
 use Rattle.receiver.specs.Receiver.{slotAt, putSlot, gathered, assembled, finish, pushContinue, pushFrame}
 use Rattle.inactivity.specs.declared.StatusResult.the-variants as results
-use Rattle.inactivity.specs.declared.State.the-variants.{Idle, Waiting}
+use Rattle.inactivity.specs.declared.State.{State}
+use Rattle.inactivity.specs.declared.State.the-variants.{Idle, Waiting, SendingUnsolicited, FinalWait}
+use Rattle.inactivity.specs.declared.ArqInactivity.{ArqInactivity}
 use Rattle.inactivity.specs.Inactivity as I
 use Rattle.procedure.specs.declared.StatusKind.the-variants.{Solicited}
 use Rattle.procedure.specs.declared.StatusTransmission.{StatusTransmission}
@@ -38,7 +40,7 @@ use Rattle.procedure.specs.declared.ReceiveEvent.the-variants as receive
 use Rattle.procedure.specs.declared.TimerEvent.the-variants.{None, SendStatus, Terminated}
 use Rattle.procedure.specs.declared.SendEvent.the-variants as sends
 use Rattle.procedure.specs.declared.ArqProcedure.{ArqProcedure}
-use Rattle.procedure.specs.Procedure.{newOf, says, resetOf, activeOf, accepted, receiveOf, unsolicited, advanceOf, statusSentOf}
+use Rattle.procedure.specs.Procedure.{newOf, blankProcedure, says, resetOf, activeOf, accepted, receiveOf, unsolicited, advanceOf, statusSentOf}
 use Rattle.procedure.specs.History.{receive, advance, statusSent, reset, runs, Each, present, Pending, ReportedSent}
 
 -- an order of seven octets needs a Begin and one Continue, one of a single octet needs only the Begin
@@ -66,7 +68,7 @@ seven = 1 ∷ 2 ∷ 3 ∷ 4 ∷ 5 ∷ 6 ∷ 7 ∷ []
 
 -- one of twenty needs two Continues
 abbrev twenty : List ℕ
-twenty = replicate 20 9
+twenty = 1 ∷ 2 ∷ 3 ∷ 4 ∷ 5 ∷ 6 ∷ 7 ∷ 8 ∷ 9 ∷ 10 ∷ 11 ∷ 12 ∷ 13 ∷ 14 ∷ 15 ∷ 16 ∷ 17 ∷ 18 ∷ 19 ∷ 20 ∷ []
 
 abbrev room : List ℕ
 room = replicate 255 0
@@ -185,6 +187,61 @@ pub waited : (whole .inactivity .state ≡ Waiting 100)
     × (statusSentOf begun 120 (status 8 0 false) results.Failed .outcome ≡ gives sends.Failed)
 unfolding runs receiveOf accepted advanceOf statusSentOf pushFrame pushContinue finish assembled gathered slotAt putSlot same ones onesIn decodeOf headerAAt addressAt bitsOf bits value octets field upTo layout anySet encodeOf beginFrame continueFrame packed encodable inRange
 waited = (refl, refl, refl, refl, refl, refl, refl, refl, refl, refl, refl, refl)
+
+-- a timer in a state at block b, under a token; an unsolicited status is pending or not
+abbrev timer : State → ℕ → Bool → ℕ → ArqInactivity
+timer k b pending t = record { state = k; «last_block» = b; «unsolicited_pending» = pending; transaction = record { 0 = t }; «next_token» = t + 1 }
+
+-- the order of twenty in its final wait, with no Continue and with the first; whole there, by the polled second
+abbrev waiting : ArqProcedure
+waiting = runs longer (advance 132 ∷ statusSent 150 (unsolicited (runs longer (advance 132 ∷ []))) results.Sent ∷ [])
+
+abbrev half : ArqProcedure
+half = runs longer (receive 101 (frame twenty 1) room ∷ advance 133 ∷ statusSent 150 (unsolicited (runs longer (advance 133 ∷ []))) results.Sent ∷ [])
+
+abbrev late : ArqProcedure
+late = runs half (receive 160 (polled twenty 2) room ∷ [])
+
+-- whole while a status is being sent
+abbrev sending : ArqProcedure
+sending = runs asked (receive 140 (polled seven 1) room ∷ [])
+
+-- every state is visited by every call; each is the Rust's answer to the same calls
+pub visited : (waiting .inactivity ≡ timer (FinalWait 150) 150 false 8)
+    × (receiveOf waiting 160 (frame twenty 1) room .procedure .inactivity ≡ timer (Waiting 160) 160 false 8)
+    × (receiveOf half 160 (frame twenty 1) room .procedure .inactivity ≡ timer (Waiting 160) 160 false 8)
+    × (receiveOf half 160 (polled twenty 1) room .outcome ≡ gives (receives.Accepted deliveries.Nothing (transmissions.Status (status 8 1 false))))
+    × (receiveOf half 160 (frame twenty 0) room .procedure .inactivity ≡ timer (Waiting 160) 160 false 9)
+    × (receiveOf half 160 foreign room .procedure .inactivity ≡ timer (FinalWait 150) 160 false 8)
+    × (receiveOf half 160 (frame seven 1) room .outcome ≡ refuses 14)
+    × (receiveOf half 160 (frame seven 1) room .procedure .inactivity ≡ timer (FinalWait 150) 160 false 8)
+    × (receiveOf half 160 (frame twenty 2) room .buffer ≡ twenty ++ replicate 235 0)
+    × (receiveOf half 160 (frame twenty 2) room .procedure .inactivity ≡ timer Idle 160 false 9)
+    × (late .inactivity ≡ timer (FinalWait 150) 160 false 8)
+    × (activeOf late ≡ true)
+    × (advanceOf late 900 .outcome ≡ gives None)
+    × (advanceOf late 900 .state .inactivity ≡ timer (FinalWait 150) 900 false 8)
+    × (receiveOf late 161 (polled twenty 2) room .outcome ≡ gives (receives.Accepted deliveries.Nothing (transmissions.Status (status 8 3 true))))
+    × (receiveOf late 161 (polled twenty 1) room .outcome ≡ gives (receives.Accepted deliveries.Nothing (transmissions.Status (status 8 3 true))))
+    × (receiveOf late 161 (frame twenty 1) room .procedure .inactivity ≡ timer Idle 161 false 9)
+    × (statusSentOf half 160 (status 8 1 false) results.Failed .outcome ≡ gives sends.Failed)
+    × (statusSentOf half 160 (status 8 1 false) results.Failed .state .inactivity ≡ timer Idle 160 false 9)
+    × (statusSentOf half 160 (status 8 1 false) results.Sent .state .inactivity ≡ timer (Waiting 160) 160 false 8)
+    × (receiveOf asked 140 (frame seven 0) room .procedure .inactivity ≡ timer (Waiting 140) 140 false 9)
+    × (receiveOf longer 120 (frame twenty 1) room .procedure .inactivity ≡ timer (Waiting 120) 120 false 8)
+    × (runs longer (receive 120 (frame twenty 1) room ∷ receive 125 (frame twenty 1) room ∷ []) .inactivity ≡ timer (Waiting 125) 125 false 8)
+    × (runs back (receive 145 (frame twenty 1) room ∷ []) .inactivity ≡ timer (Waiting 145) 145 true 8)
+    × (sending .inactivity ≡ timer SendingUnsolicited 140 true 8)
+    × (advanceOf sending 900 .outcome ≡ gives None)
+    × (statusSentOf sending 150 (unsolicited asked) results.Sent .state .inactivity ≡ timer (FinalWait 150) 150 false 8)
+    × (advanceOf (runs sending (statusSent 150 (unsolicited asked) results.Sent ∷ [])) 900 .outcome ≡ gives None)
+    × (statusSentOf sending 150 (unsolicited asked) results.Failed .outcome ≡ gives sends.Failed)
+unfolding runs receiveOf accepted advanceOf statusSentOf pushFrame pushContinue finish assembled gathered slotAt putSlot same ones onesIn decodeOf headerAAt addressAt bitsOf bits value octets field upTo layout anySet encodeOf beginFrame continueFrame packed encodable inRange
+visited = (refl, refl, refl, refl, refl, refl, refl, refl, refl, refl, refl, refl, refl, refl, refl, refl, refl, refl, refl, refl, refl, refl, refl, refl, refl, refl, refl, refl, refl)
+
+-- what stands beside a refused constructor: nothing held, for Tmsi20 of 0, under token 0
+pub blank : (blankProcedure .inactivity ≡ timer Idle 0 false 0) × (blankProcedure .receiver ≡ R.fresh (Tmsi20 0))
+blank = (refl, refl)
 
 -- ---- the statements over lists of calls are not empty
 

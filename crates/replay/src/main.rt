@@ -14,14 +14,14 @@ fn replay(script: &[u8], answers: &mut [u8], text: &mut [u8]) -> usize
 }
 
 fn main() {
-    let mut input = [0u8; 32769];
+    let mut input = [0u8; 65537];
     let n = io::read_full(STDIN_FILENO, &mut input);
-    if 32768 < n {
+    if 65536 < n {
         io::write_all(STDOUT_FILENO, b"too long\n");
         return;
     }
-    let mut answers = [0u8; 32768];
-    let mut text = [0u8; 98304];
+    let mut answers = [0u8; 65536];
+    let mut text = [0u8; 196608];
     let end = replay(&input[..n], &mut answers, &mut text);
     io::write_all(STDOUT_FILENO, &text[0..end]);
 }

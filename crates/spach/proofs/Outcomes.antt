@@ -18,6 +18,10 @@ pub then-gives : {A B : Type 0} (o : Outcome A) (f : A → Outcome B) {b : B} �
 then-gives (gives a) f e = (a, refl, e)
 then-gives (refuses n) f e = let z : _≡_ {A = ℕ} 0 1 = cc in absurd (omega arith)
 
+-- outcomes that are equal give the same value
+pub gives-same : {A : Type 0} {a b : A} → gives a ≡ gives b → a ≡ b
+gives-same e = cc
+
 -- an answer that is accepted has the outcome's value
 pub answered-gives : {A : Type 0} (blank : A) (o : Outcome A) {v : Verdict} {a : A} → (verdictOf v, a) ≡ answered blank o → v ≡ Accepted → o ≡ gives a
 answered-gives blank (gives b) e q = ap gives (sym (ap (λ z. z .1) e))

@@ -18,29 +18,28 @@ use bts136::harness::{
 };
 use std::{collections::BTreeSet, fs, io, path::Path, process::ExitCode};
 
+mod apart;
 mod lives;
 mod senders;
 
 const SEED: u64 = 136;
 /// What the programs have room for, script and answers alike.
-const MOST_OCTETS: usize = 32_000;
-const MOST_OF_SENDERS: usize = 64_000;
+const MOST_OCTETS: usize = 64_000;
 const RANDOM_OPERATIONS: usize = 100;
 const LINE_OCTETS: usize = 32;
 
 pub fn main(folder: &Path) -> ExitCode {
-    made(folder, &fixed_script(), MOST_OCTETS, script::run)
+    made(folder, &fixed_script(), script::run)
 }
 /// The script of senders.
 pub fn senders(folder: &Path) -> ExitCode {
-    let script = senders::fixed_script();
-    made(folder, &script, MOST_OF_SENDERS, |script, answers| {
+    made(folder, &senders::fixed_script(), |script, answers| {
         Memory::default().lent_to(run_sender, script, answers)
     })
 }
 type Run = fn(&[u8], &mut [u8]) -> usize;
-fn made(folder: &Path, script: &[u8], most: usize, run: Run) -> ExitCode {
-    let answers = answers(script, most, run);
+fn made(folder: &Path, script: &[u8], run: Run) -> ExitCode {
+    let answers = answers(script, run);
     match write(folder, script, &answers) {
         Ok(()) => {
             println!("{} octets, {} answered", script.len(), answers.len());
@@ -58,16 +57,16 @@ fn write(folder: &Path, script: &[u8], answers: &[u8]) -> io::Result<()> {
     let lines = answers.chunks(LINE_OCTETS).map(|line| hex(line) + "\n");
     fs::write(folder.join("stdout"), lines.collect::<String>())
 }
-fn answers(script: &[u8], most: usize, run: Run) -> Vec<u8> {
-    assert!(script.len() <= most);
-    let mut answers = vec![0; most];
+fn answers(script: &[u8], run: Run) -> Vec<u8> {
+    assert!(script.len() <= MOST_OCTETS);
+    let mut answers = vec![0; MOST_OCTETS];
     let length = run(script, &mut answers);
     answers.truncate(length);
     assert_eq!(answers.last(), Some(&END), "the whole script was run");
     answers
 }
 
-/// Every refusal and every boundary of the operations, then random ones.
+/// Every refusal and every boundary of the operations, then random ones; then what these leave alike is told apart.
 fn fixed_script() -> Vec<u8> {
     let mut script = Script(Vec::new());
     script.identities();
@@ -90,6 +89,10 @@ fn fixed_script() -> Vec<u8> {
         let op = random.pick(&OPERATIONS.each_ref().map(|operation| operation.op));
         append(&mut random, op, &mut script.0);
     }
+    script.distinct();
+    script.unread();
+    script.timer_states();
+    script.procedure_states();
     script.0
 }
 

@@ -17,13 +17,13 @@ use std::ops::RangeInclusive;
 
 const LAST: u64 = u64::MAX;
 /// Results, and the kinds of a transmission.
-const GONE: u8 = 0;
-const FAILED: u8 = 1;
-const SOLICITED: u8 = 0;
-const UNSOLICITED: u8 = 1;
+pub const GONE: u8 = 0;
+pub const FAILED: u8 = 1;
+pub const SOLICITED: u8 = 0;
+pub const UNSOLICITED: u8 = 1;
 
 /// An operation, its words, and the octets after them.
-type Row = (u8, &'static [u64], &'static [u8]);
+pub type Row = (u8, &'static [u64], &'static [u8]);
 /// Both waits to the block, and a result that comes twice.
 const WAITS: [Row; 11] = [
     (TIMER, &[7], &[]),
@@ -97,14 +97,19 @@ const TOKENS: [Row; 17] = [
 impl Script {
     pub fn timers(&mut self) {
         self.unmade(TIMER_TOKEN..=TIMER_STATE);
-        let rows = WAITS.iter().chain(&PENDING).chain(&CLOCKS).chain(&TOKENS);
-        for (op, words, octets) in rows {
-            let words: Vec<u8> = words.iter().flat_map(|word| word.to_be_bytes()).collect();
-            self.lived(*op, &[&words, octets]);
+        for rows in [&WAITS[..], &PENDING, &CLOCKS, &TOKENS] {
+            self.rows(rows);
         }
         self.push(TIMER_TOKEN, &[]);
         for number in [LAST, LAST - 1] {
             self.push(TIMER_OWNS, &[&word(number)]);
+        }
+    }
+    /// Operations of a timer, one after the other, and the state after each.
+    pub fn rows(&mut self, rows: &[Row]) {
+        for (op, words, octets) in rows {
+            let words: Vec<u8> = words.iter().flat_map(|word| word.to_be_bytes()).collect();
+            self.lived(*op, &[&words, octets]);
         }
     }
     /// Operations that have nothing to work on.
@@ -115,7 +120,7 @@ impl Script {
         }
     }
     /// An operation of a timer or of a procedure, and the state after it.
-    fn lived(&mut self, op: u8, operands: &[&[u8]]) {
+    pub fn lived(&mut self, op: u8, operands: &[&[u8]]) {
         self.push(op, operands);
         self.push(
             match op < PROCEDURE {
@@ -233,17 +238,17 @@ impl Script {
         self.lived(PROCEDURE_RESET, &[]);
     }
 
-    fn made(&mut self, identity: [u8; 9], first: u64) {
+    pub fn made(&mut self, identity: [u8; 9], first: u64) {
         self.lived(PROCEDURE, &[&identity, &word(first)]);
     }
-    fn received(&mut self, block: u64, frame: &Parsed) {
+    pub fn received(&mut self, block: u64, frame: &Parsed) {
         let frame = decode_operands(&encoded(frame));
         self.lived(RECEIVE, &[&word(block), &frame, &pair(LEAST_ROOM), &[0xaa]]);
     }
-    fn advanced(&mut self, block: u64) {
+    pub fn advanced(&mut self, block: u64) {
         self.lived(ADVANCE, &[&word(block)]);
     }
-    fn sent(&mut self, block: u64, token: u64, kind: u8, complete_at_poll: u8, result: u8) {
+    pub fn sent(&mut self, block: u64, token: u64, kind: u8, complete_at_poll: u8, result: u8) {
         let transmission = transmission(token, 0, kind, complete_at_poll);
         self.lived(SENT, &[&word(block), &transmission, &[result]]);
     }
@@ -253,7 +258,7 @@ fn word(value: u64) -> [u8; 8] {
 }
 /// HEADER without its polling.
 const UNPOLLED: [u8; HEADER_OCTETS] = [HEADER[0], HEADER[1], HEADER[2], 0, HEADER[4]];
-fn polled(frame: &Parsed) -> Parsed {
+pub fn polled(frame: &Parsed) -> Parsed {
     changed(frame, 4, 1)
 }
 /// The operands of a frame with a set bit of padding.
