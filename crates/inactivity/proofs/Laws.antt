@@ -18,7 +18,7 @@ use Rattle.inactivity.specs.declared.State.{State}
 use Rattle.inactivity.specs.declared.State.the-variants.{Idle, Waiting, SendingUnsolicited, FinalWait}
 use Rattle.inactivity.specs.declared.Turn.{Turn}
 use Rattle.inactivity.specs.declared.ArqInactivity.{ArqInactivity}
-use Rattle.inactivity.specs.Inactivity.{turn, ownsOf, clocked, inState, renewed, admitted, acts, isIdle, due, solicitedAt, solicitedBy, unsolicitedAt, unsolicitedBy, sentFrom, reported, resetOf, observeOf, receivedFrameOf, advanceOf, unsolicitedOf, solicitedOf}
+use Rattle.inactivity.specs.Inactivity.{turn, tokenOf, ownsOf, clocked, inState, renewed, admitted, acts, isIdle, due, solicitedAt, solicitedBy, unsolicitedAt, unsolicitedBy, sentFrom, reported, resetOf, observeOf, receivedFrameOf, advanceOf, unsolicitedOf, solicitedOf}
 
 -- the timer at block b, in another state, with an unsolicited status pending or not, under the same token
 abbrev pub goesTo : ArqInactivity → State → ℕ → Bool → ArqInactivity
@@ -42,7 +42,11 @@ pub record Admits (s : ArqInactivity) (b : ℕ) : Type 0 where
   pub later : s .«last_block» ≤ b
 
 module _ (s : ArqInactivity) where
-  -- ---- owns, reset, observe, received_frame
+  -- ---- token, owns, reset, observe, received_frame
+
+  -- the present token is told, not the one that comes next
+  pub tells-token : tokenOf s .0 ≡ s .transaction .0
+  tells-token = refl
 
   -- the present token alone is owned
   pub owns-exactly : (t : TransactionToken) → (ownsOf s t ≡ true) ↔ (t .0 ≡ s .transaction .0)

@@ -3,11 +3,13 @@
 use mathlib.Core.Path.{_≡_, refl, sym, ap, _∙_}
 use mathlib.Core.Bool.{Bool, true, false, cond}
 use mathlib.Core.List.{List}
-use Prim.Native.Nat.{ℕ, _≤_, _<_}
+use Prim.Native.Nat.{ℕ, _≤_, _<_, _^_}
 use lib.ListN.{length}
 use borrow.Author.Tests.{lt-ltb, le-ltb, eq-eqb, ne-eqb}
-use Rattle.token.specs.Token.{fewerThan}
-use Rattle.spach.specs.Refusal.{Outcome, gives, refuses, After, onward}
+use Rattle.token.specs.Token.{fewerThan, numberAfter}
+use Rattle.rach.specs.declared.MobileIdentity.{MobileIdentity}
+use Rattle.rach.specs.Identity.{typeOf, valueOf, widthOf}
+use Rattle.spach.specs.Refusal.{Outcome, gives, refuses, andThen, After, onward}
 use Rattle.spach.proofs.Outcomes.{gives-same}
 use Rattle.arq.specs.declared.FrameKind.{FrameKind}
 use Rattle.arq.specs.declared.FrameKind.the-variants.{Begin, Continue}
@@ -23,8 +25,9 @@ use Rattle.receiver.specs.declared.Reception.{Reception}
 use Rattle.receiver.specs.declared.Reception.the-variants as receptions
 use Rattle.receiver.specs.Receiver as R
 use Rattle.receiver.specs.Receiver.{pushFrame, statusOf, completeOf}
+use Rattle.receiver.proofs.Laws.{made-exactly, made-2-exactly}
 use Rattle.inactivity.specs.declared.ArqInactivity.{ArqInactivity}
-use Rattle.inactivity.specs.declared.State.the-variants.{Waiting}
+use Rattle.inactivity.specs.declared.State.the-variants.{Idle, Waiting}
 use Rattle.inactivity.specs.declared.Turn.{Turn}
 use Rattle.inactivity.specs.declared.InactivityAction.{InactivityAction}
 use Rattle.inactivity.specs.declared.InactivityAction.the-variants as actions
@@ -43,7 +46,7 @@ use Rattle.procedure.specs.declared.TimerEvent.the-variants.{None, SendS
 use Rattle.procedure.specs.declared.SendEvent.{SendEvent}
 use Rattle.procedure.specs.declared.SendEvent.the-variants as sends
 use Rattle.procedure.specs.declared.ArqProcedure.{ArqProcedure}
-use Rattle.procedure.specs.Procedure.{Out, withTimer, admits, says, resetOf, timed, polled, endsUnpolled, accepted, byAnswer, decoded, receiveOf, follows, dueAt, advanceOf, reported, sentAt, statusSentOf}
+use Rattle.procedure.specs.Procedure.{newOf, Out, withTimer, admits, says, resetOf, timed, polled, endsUnpolled, accepted, byAnswer, decoded, receiveOf, follows, dueAt, advanceOf, reported, sentAt, statusSentOf}
 
 -- a receiver and a timer
 abbrev made : ArqReassembler → ArqInactivity → ArqProcedure
@@ -56,6 +59,19 @@ over r t b = made (R.resetOf r) (startsAnew t b)
 -- an answer, and the procedure beside it
 abbrev tells : {A : Type 0} → A → ArqProcedure → After A ArqProcedure
 tells a p = record { outcome = gives a; state = p }
+
+-- ---- the constructor
+
+-- of an identity of 1 to 2^width − 1: a fresh receiver of it, and an idle timer at block 0 under the first number
+pub makes : (i : MobileIdentity) (first : ℕ) → (0 < valueOf i) × (valueOf i < 2 ^ widthOf (typeOf i))
+    → newOf i first ≡ gives (made (R.fresh i) (record { state = Idle; «last_block» = 0; «unsolicited_pending» = false; transaction = record { 0 = first }; «next_token» = numberAfter first }))
+unfolding newOf
+makes i first h = ap (λ (o : Outcome ArqReassembler). andThen o (λ r. gives (made r (I.newOf first)))) (made-exactly i .1 h)
+
+-- of any other: 2
+pub makes-2 : (i : MobileIdentity) (first : ℕ) → ((0 < valueOf i) × (valueOf i < 2 ^ widthOf (typeOf i)) → ⊥) → newOf i first ≡ refuses 2
+unfolding newOf
+makes-2 i first h = ap (λ (o : Outcome ArqReassembler). andThen o (λ r. gives (made r (I.newOf first)))) (made-2-exactly i .1 h)
 
 -- ---- receive
 

@@ -15,6 +15,7 @@ pub mod Gate
 pub mod Holds
 pub mod Instance
 pub mod Kept
+pub mod Leaves
 pub mod Listed
 pub mod Literal
 pub mod Lives

@@ -93,6 +93,7 @@ fn fixed_script() -> Vec<u8> {
     script.unread();
     script.timer_states();
     script.procedure_states();
+    script.told_and_made();
     script.0
 }
 

@@ -2,7 +2,7 @@
 //! not read; two faults at once; each call of a timer and of a procedure in each state that it can be in.
 use super::{
     Script, begin, changed, continuing, cut,
-    lives::{FAILED, GONE, Row, SOLICITED, UNSOLICITED, polled},
+    lives::{FAILED, GONE, Row, SOLICITED, UNSOLICITED, polled, word},
     pair, with_echo,
 };
 use crate::{
@@ -12,7 +12,7 @@ use crate::{
 use bts136::harness::{
     script::{
         COUNT, DECODE, ENCODE, FRAME, MESSAGE, PROCEDURE_ACTIVE, PROCEDURE_RESET, TIMER,
-        TIMER_ADVANCE, TIMER_OBSERVE, TIMER_RECEIVED, TIMER_RESET, TIMER_SOLICITED,
+        TIMER_ADVANCE, TIMER_OBSERVE, TIMER_RECEIVED, TIMER_RESET, TIMER_SOLICITED, TIMER_TOKEN,
         TIMER_UNSOLICITED,
     },
     wire::{self, FRAME_OCTETS, HEADER_OCTETS},
@@ -214,6 +214,18 @@ impl Script {
     }
     pub fn timer_states(&mut self) {
         self.rows(&STATES);
+    }
+    /// The token that is told, before a reset and after it; procedures for the least, the greatest and too great an identity of each type.
+    pub fn told_and_made(&mut self) {
+        self.push(TIMER, &[&word(7)]);
+        self.push(TIMER_TOKEN, &[]);
+        self.push(TIMER_RESET, &[]);
+        self.push(TIMER_TOKEN, &[]);
+        for (kind, width) in [(0, 20), (1, 24), (2, 34), (3, 50)] {
+            for value in [1, (1 << width) - 1, 1 << width] {
+                self.made(identity_operand(kind, value), 7);
+            }
+        }
     }
 
     /// Procedures in each state: waiting, sending a status, waiting with one pending, in the final wait, complete in each of them.

@@ -253,7 +253,7 @@ impl Script {
         self.lived(SENT, &[&word(block), &transmission, &[result]]);
     }
 }
-fn word(value: u64) -> [u8; 8] {
+pub fn word(value: u64) -> [u8; 8] {
     value.to_be_bytes()
 }
 /// HEADER without its polling.
