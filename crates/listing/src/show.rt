@@ -32,10 +32,10 @@ fn least(a: u64, b: u64) -> u64
     if a < b { a } else { b }
 }
 
-// After a short count: one more read answers 0 if the input is at its end. `read_full` does not tell an end from a failure.
-fn not_ended() -> bool {
+// After a short count: one more read answers -1 if reading fails. `read_full` does not tell an end from a failure.
+fn cannot_read() -> bool {
     let mut one = [0u8; 1];
-    libc::read(STDIN_FILENO, &mut one) != 0
+    libc::read(STDIN_FILENO, &mut one) < 0
 }
 
 // Reads until the room is full, `left` octets are read, the input ends or a read fails.
@@ -50,7 +50,7 @@ fn read_some(room: &mut [u8], left: u64) -> Got
             failed: false,
         };
     }
-    let failed = not_ended();
+    let failed = cannot_read();
     Got {
         count: n,
         failed: failed,

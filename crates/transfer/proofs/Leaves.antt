@@ -9,7 +9,7 @@ use mathlib.Core.Option.{Option, none, some}
 use Prim.Native.Nat.{ℕ, suc, _+_, _-_, _*_, _%_, _≤_, _<_}
 use native.Mathlib.Omega.{arith}
 use lib.Dec.{eqb, leb, ltb}
-use lib.ListN.{length, getD, set, length-append}
+use lib.ListN.{length, getD, set}
 use borrow.Author.Tests.{eqb-true, eq-eqb, ne-eqb, ltb-true, lt-ltb, le-ltb}
 use Rattle.token.specs.Token.{stop, numberAfter, fewerThan}
 use Rattle.rach.specs.Identity.{encodable}
@@ -22,7 +22,6 @@ use Rattle.arq.specs.Exactly.{said, table, cutTable}
 use Rattle.arq.proofs.Theorems.{count-refuses}
 use Rattle.receiver.proofs.Ways.{true-false, pick-true, pick-false}
 use Rattle.transfer.specs.declared.Addressee.the-variants as addressees
-use Rattle.transfer.specs.declared.Confirmation.{Confirmation}
 use Rattle.transfer.specs.declared.Confirmation.the-variants.{NotFound}
 use Rattle.transfer.specs.declared.Error.the-variants.{EchoExhausted}
 use Rattle.transfer.specs.declared.Event.{Event}
@@ -34,20 +33,20 @@ use Rattle.transfer.specs.declared.PreparedFrame.{PreparedFrame}
 use Rattle.transfer.specs.declared.Request.{Request}
 use Rattle.transfer.specs.declared.Transfer.{Transfer}
 use Rattle.transfer.specs.declared.TransferToken.{TransferToken}
-use Rattle.transfer.specs.Lists.{position, removeAt}
+use Rattle.transfer.specs.Lists.{position}
 use Rattle.transfer.specs.Queue.{front}
-use Rattle.transfer.specs.Numbers.{Ending, endingOf}
+use Rattle.transfer.specs.Numbers.{endingOf}
 use Rattle.transfer.specs.State.{Limits, Clock, Echoes, View, Lent, Out, admitted, ticked, says, refusal, goesOn, seek, ofEcho, ofGeneration, unselect, cancelAt, blankTransfer, tokenTaken}
 use Rattle.transfer.specs.Transfer.{headerOf, doneOf, settleOf, restartDue, begun}
 use Rattle.transfer.specs.Advance.{settled, fateOf, kept, restart, landed, step}
-use Rattle.transfer.specs.Echo.{freeEcho, heldUntil, hold}
+use Rattle.transfer.specs.Echo.{freeEcho}
 use Rattle.transfer.specs.Enqueue.{addressed, Grant, granted, allocated, grantOf, lowestN, parcelOf, stored, accepts, enqueueOf}
 use Rattle.transfer.specs.Submitted.{isSelected, inFlight, handedIn, isOutstanding, submittedAt, confirms, transmittedAt}
 use Rattle.transfer.specs.Prepare.{isReady}
 use Rattle.transfer.specs.Cancel.{cancelFirst, cancelOf, ownedBy, cancelTransactionOf, cancelAllOf}
 use Rattle.transfer.specs.Queries.{identityForEchoOf, containsOf, popEventOf}
 use Rattle.transfer.specs.Invariant.{All}
-use Rattle.transfer.proofs.Listed.{all-map, all-head, all-tail, all-at, length-in, position-found}
+use Rattle.transfer.proofs.Listed.{all-map, all-head, all-tail, all-at, at-end, removed-end, below-end, position-found}
 
 -- ---- the first that passes
 
@@ -60,24 +59,13 @@ module _ {A : Type 0} (p : A → Bool) where
   position-length [] h = refl
   position-length (y ∷ l) h = pick-false 0 (suc (position p l)) (all-head h) ∙ ap suc (position-length l (all-tail h))
 
-module _ {A : Type 0} where
-  get-split : (d : A) (a : List A) (x : A) (b : List A) → getD (a ++ x ∷ b) (length a) d ≡ x
-  get-split d [] x b = refl
-  get-split d (y ∷ a) x b = get-split d a x b
-
-  removed-split : (a : List A) (x : A) (b : List A) → removeAt (length a) (a ++ x ∷ b) ≡ a ++ b
-  removed-split [] x b = refl
-  removed-split (y ∷ a) x b = ap (λ (l : List A). y ∷ l) (removed-split a x b)
-
 module _ {B : Type 0} (p : Transfer → Bool) (nothing : B) (found : ℕ → Transfer → B) where
   seek-found : (a : List Transfer) (x : Transfer) (b : List Transfer) → All (λ y. p y ≡ false) a → p x ≡ true → seek p (a ++ x ∷ b) nothing found ≡ found (length a) x
   seek-found a x b h e =
       let l = a ++ x ∷ b in
-      let more = length-in a x b in
-      let both = length-append a b in
-      let lt : length a < length l = omega arith in
+      let lt = below-end a x b in
       ap (λ (i : ℕ). cond (ltb i (length l)) (found i (getD l i blankTransfer)) nothing) (position-split p a x b h e)
-      ∙ (pick-true (found (length a) (getD l (length a) blankTransfer)) nothing (lt-ltb (length a) (length l) lt) ∙ ap (found (length a)) (get-split blankTransfer a x b))
+      ∙ (pick-true (found (length a) (getD l (length a) blankTransfer)) nothing (lt-ltb (length a) (length l) lt) ∙ ap (found (length a)) (at-end a x b blankTransfer))
 
   seek-none : (l : List Transfer) → All (λ y. p y ≡ false) l → seek p l nothing found ≡ nothing
   seek-none l h =
@@ -163,7 +151,7 @@ module _ (l : Limits) (c : Clock) (es : List Event) (e : Echoes) (s : Option Pre
   cancel-found p a x b h q =
       let v = view l c (a ++ x ∷ b) es e s n in
       seek-found p (says false v) (λ place y. says true (cancelAt v place y)) a x b h q
-      ∙ ap (λ (ts : List Transfer). says true (view l c ts (es ++ Cancelled (x .parcel .completion) ∷ []) e (unselect (x .generation) s) n)) (removed-split a x b)
+      ∙ ap (λ (ts : List Transfer). says true (view l c ts (es ++ Cancelled (x .parcel .completion) ∷ []) e (unselect (x .generation) s) n)) (removed-end a x b)
 
   pub cancel-unknown : (i : MobileIdentity) (ts : List Transfer) → All (λ y. addressed i y ≡ false) ts → cancelOf (view l c ts es e s n) i ≡ record { outcome = gives false; state = view l c ts es e s n }
   unfolding cancelOf
@@ -201,6 +189,16 @@ module _ (l : Limits) (c : Clock) (es : List Event) (e : Echoes) (s : Option Pre
   unfolding identityForEchoOf
   identity-for-none echo ts h = seek-none (ofEcho echo) addressees.Nothing (λ place y. addressees.Identity (y .parcel .identity)) ts (all-map (λ y d. ne-eqb (y .echo) echo d) h)
 
+  -- the event that waits longest is told and taken; the others keep their order, and nothing else changes
+  pub pops : (ts : List Transfer) (x : Event) (later : List Event) → popEventOf (view l c ts (x ∷ later) e s n) ≡ record { outcome = gives (some (endingOf x)); state = view l c ts later e s n }
+  unfolding popEventOf
+  pops ts x later = refl
+
+  -- with none waiting nothing is told, and nothing changes
+  pub pops-none : (ts : List Transfer) → popEventOf (view l c ts [] e s n) ≡ record { outcome = gives none; state = view l c ts [] e s n }
+  unfolding popEventOf
+  pops-none ts = refl
+
   -- ---- submitted
 
   -- a frame that is accepted: its transfer goes to the back, the others keep their order; nothing is selected any more, and one word is written
@@ -223,7 +221,7 @@ module _ (l : Limits) (c : Clock) (es : List Event) (e : Echoes) (s : Option Pre
         outcome = gives tt;
         sender = view l c (ts ++ inFlight (t .frame) (c .«last_block») x ∷ []) es e none n;
         lent = record { octets = m .octets; words = set (m .words) (27 * x .parcel .n + t .frame) (t .submission .0) };
-      }) (removed-split a x b)))
+      }) (removed-end a x b)))
 
 -- a refusal leaves the sender and the lent memory
 pub submitted-refused : (v : View) (m : Lent) (t : FrameToken) (k : ℕ) → submittedAt v m t .outcome ≡ refuses k → submittedAt v m t ≡ refusal k v m
@@ -330,9 +328,9 @@ through : {A : Type 0} (t : Bool) (k : ℕ) (o : Outcome A) → t ≡ false → 
 through true k o q = absurd (true-false {x = true} refl q)
 through false k o q = refl
 
-neither : (s t : Bool) → s ≡ false → t ≡ false → (s || t) ≡ false
-neither true t p q = absurd (true-false {x = true} refl p)
-neither false t p q = q
+or-false : (s t : Bool) → s ≡ false → t ≡ false → (s || t) ≡ false
+or-false true t p q = absurd (true-false {x = true} refl p)
+or-false false t p q = q
 
 stops : {A B : Type 0} (w : View) (m : Lent) (o : Outcome A) (f : A → Out B) (k : ℕ) → ((a : A) → f a .outcome ≢ refuses k) → goesOn w m o f .outcome ≡ refuses k → goesOn w m o f ≡ refusal k w m
 stops w m (gives a) f k h q = absurd (h a q)
@@ -354,9 +352,9 @@ pub enqueue-refused : (v : View) (m : Lent) (r : Request) (message : List ℕ) (
 unfolding enqueueOf
 enqueue-refused v m r message block now k octets words tokens later on q =
     let moved = view (v .limits) (record { «last_block» = block; «last_ms» = now }) (v .transfers) (v .events) (v .echoes) (v .selected) (v .«next_token») in
-    let ticks : ticked v block now ≡ gives moved = through (ltb block (v .clock .«last_block») || ltb now (v .clock .«last_ms»)) 22 (gives moved) (neither _ _ (le-ltb block (v .clock .«last_block») later) (le-ltb now (v .clock .«last_ms») on)) in
+    let ticks : ticked v block now ≡ gives moved = through (ltb block (v .clock .«last_block») || ltb now (v .clock .«last_ms»)) 22 (gives moved) (or-false _ _ (le-ltb block (v .clock .«last_block») later) (le-ltb now (v .clock .«last_ms») on)) in
     let admits : admitted v m block now ≡ gives moved =
-    through (ltb (length (m .octets)) 32640 || ltb (length (m .words)) 3456) 16 (refuse (fewerThan 512 (v .«next_token»)) 18 (ticked v block now)) (neither _ _ (le-ltb (length (m .octets)) 32640 octets) (le-ltb (length (m .words)) 3456 words))
+    through (ltb (length (m .octets)) 32640 || ltb (length (m .words)) 3456) 16 (refuse (fewerThan 512 (v .«next_token»)) 18 (ticked v block now)) (or-false _ _ (le-ltb (length (m .octets)) 32640 octets) (le-ltb (length (m .words)) 3456 words))
     ∙ (through (fewerThan 512 (v .«next_token»)) 18 (ticked v block now) (le-ltb (stop - v .«next_token») 512 tokens) ∙ ticks) in
     let e : enqueueOf v m r message block now ≡ goesOn moved m (grantOf moved r message) (accepts moved m r message) = ap (λ (o : Outcome View). goesOn v m o (λ w. goesOn w m (grantOf w r message) (λ g. accepts w m r message g))) admits in
     e ∙ stops moved m (grantOf moved r message) (accepts moved m r message) k (λ g. accepts-gives moved m r message g k) (sym (ap (λ (o : Out TransferToken). o .outcome) e) ∙ q)
@@ -396,4 +394,4 @@ enqueue-replaces l c a x b es e s n m r message g h q =
     let u = view l c (a ++ x ∷ b) es (held l e (g .echo) (r .«deadline_ms»)) s n in
     ap (added (view l c (a ++ x ∷ b) es e s n) m r message g)
     (seek-found (addressed (r .identity)) u (cancelAt u) a x b h q
-    ∙ ap (λ (ts : List Transfer). view l c ts (es ++ Cancelled (x .parcel .completion) ∷ []) (held l e (g .echo) (r .«deadline_ms»)) (unselect (x .generation) s) n) (removed-split a x b))
+    ∙ ap (λ (ts : List Transfer). view l c ts (es ++ Cancelled (x .parcel .completion) ∷ []) (held l e (g .echo) (r .«deadline_ms»)) (unselect (x .generation) s) n) (removed-end a x b))

@@ -146,6 +146,23 @@ module _ {A : Type 0} where
   pub length-removed : (l : List A) (i : ℕ) (d : A) → i < length l → length l ≡ suc (length (removeAt i l))
   length-removed l i d h = ap length (split-at l i d h) ∙ length-in (take i l) (getD l i d) (drop (suc i) l)
 
+  -- ---- behind a list
+
+  -- what stands there
+  pub at-end : (a : List A) (x : A) (b : List A) (d : A) → getD (a ++ x ∷ b) (length a) d ≡ x
+  at-end [] x b d = refl
+  at-end (y ∷ a) x b d = at-end a x b d
+
+  -- the list without it
+  pub removed-end : (a : List A) (x : A) (b : List A) → removeAt (length a) (a ++ x ∷ b) ≡ a ++ b
+  removed-end [] x b = refl
+  removed-end (y ∷ a) x b = ap (λ (l : List A). y ∷ l) (removed-end a x b)
+
+  -- there is such a place
+  pub below-end : (a : List A) (x : A) (b : List A) → length a < length (a ++ x ∷ b)
+  below-end [] x b = omega arith
+  below-end (y ∷ a) x b = let h = below-end a x b in omega arith
+
   -- ---- at a place
 
   module _ (l : List A) (i : ℕ) (d : A) (h : i < length l) where

@@ -23,27 +23,9 @@ use Rattle.transfer.specs.Advance.{overdue, fateOf, kept, restart, lande
 use Rattle.transfer.specs.Prepare.{askedFor}
 use Rattle.transfer.specs.Invariant.{All, Live, Different, Chosen, Selected, Sound}
 use Rattle.transfer.proofs.Around.{free-now}
-use Rattle.transfer.proofs.Listed.{all-map, all-both, all-one, all-rest, all-in, some-in, pairs-one, pairs-in, length-in}
+use Rattle.transfer.proofs.Listed.{all-map, all-both, all-one, all-rest, all-in, some-in, pairs-one, pairs-in, length-in, at-end, removed-end, below-end}
 use Rattle.transfer.proofs.Kept.{different-sym, removed-kept, moved-kept, free-unheld, hold-kept, live-after, token-kept}
 use Rattle.transfer.proofs.Alive.{settled-live, begun-live, settled-parcel, settled-chosen}
-
--- ---- the place behind those that are done
-
-module _ {A : Type 0} where
-  -- what stands there
-  at-end : (a : List A) (x : A) (b : List A) (d : A) → getD (a ++ x ∷ b) (length a) d ≡ x
-  at-end [] x b d = refl
-  at-end (y ∷ a) x b d = at-end a x b d
-
-  -- the list without it
-  removed-end : (a : List A) (x : A) (b : List A) → removeAt (length a) (a ++ x ∷ b) ≡ a ++ b
-  removed-end [] x b = refl
-  removed-end (y ∷ a) x b = ap (λ (l : List A). y ∷ l) (removed-end a x b)
-
-  -- there is such a place
-  below-end : (a : List A) (x : A) (b : List A) → length a < length (a ++ x ∷ b)
-  below-end [] x b = omega arith
-  below-end (y ∷ a) x b = let h = below-end a x b in omega arith
 
 -- ---- one step
 

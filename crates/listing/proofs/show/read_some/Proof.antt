@@ -42,8 +42,8 @@ returns c =
     let size : length (got .last .1 .0) ≡ length (take (want .result) (a .room .now)) = search needs in
     within _ _ (want .result) (a .room .now) (got .last .1 .0) _ size (want .ensures) (got .ensures .0)
 
-not-ended-requires : tie.Need-not-ended-requires
-not-ended-requires c κs = search needs
+cannot-read-requires : tie.Need-cannot-read-requires
+cannot-read-requires c κs = search needs
 
 same-length-2 : tie.Need-same-length-2
 same-length-2 c = search needs
@@ -66,6 +66,6 @@ read-some-spec =
     read-full-requires
     same-length
     returns
-    not-ended-requires
+    cannot-read-requires
     same-length-2
     returns-2)
