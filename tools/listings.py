@@ -216,6 +216,20 @@ def inputs():
     for n in (63, 64, 65, 128):
         yield own + one * n
     yield own + one * 64 + one[:1]
+    # every echo, and every octet in a message
+    yield own + b"".join(begin(0, 1, b"A", echo=echo) for echo in range(128))
+    for half in (bytes(range(128)), bytes(range(128, 256))):
+        yield own + b"".join(cut(0, 1, half, echo=42))
+    # the first bit past the message, of each type: in the one Continue, and in the last of several
+    for t in range(4):
+        for size in (10, 26):
+            first, *rest = cut(t, 9, bytes(range(200, 200 + size)), echo=42)
+            *_, last = pieces(t, bytes(range(200, 200 + size)))
+            end = 8 * size - (75 - WIDTH[t]) - 79 * (len(rest) - 1)
+            filled = cont(t, len(rest) - 1, last[:end] + [1] + last[end + 1:], echo=42)
+            yield identity(t, 9) + first + filled + b"".join(rest) + filled
+    # frames and messages past 1,000
+    yield own + one * 1100
 
 
 def samples():

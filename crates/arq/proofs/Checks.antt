@@ -11,7 +11,8 @@ use Rattle.rach.specs.Identity.{encodable}
 use Rattle.spach.specs.declared.SpachError.{SpachError}
 use Rattle.spach.specs.declared.Verdict.{Verdict}
 use Rattle.spach.specs.declared.Verdict.the-variants.{Accepted, Refused}
-use Rattle.spach.specs.Refusal.{Outcome, gives, refuses, refuse, numberOf, verdictOf, answered}
+use Rattle.spach.specs.Refusal.{Outcome, gives, refuses, refuse, numberOf, verdictOf}
+use Rattle.spach.specs.Answered.{answered}
 use Rattle.spach.specs.Header.{usageOf}
 use Rattle.spach.proofs.Outcomes.{passed}
 use Rattle.arq.specs.declared.FrameKind.{FrameKind}

@@ -13,13 +13,16 @@ use Rattle.rach.specs.Identity.{typeOf, widthOf}
 use Rattle.rach.proofs.Laws.{type-identity, width-most}
 use Rattle.spach.specs.declared.HeaderA.{HeaderA}
 use Rattle.spach.specs.declared.Address.{Address}
-use Rattle.spach.specs.Refusal.{Outcome, gives, refuses, andThen, answered}
+use Rattle.spach.specs.Refusal.{Outcome, gives, refuses, andThen}
+use Rattle.spach.specs.Answered.{answered}
 use Rattle.spach.specs.Header.{usageOf, isSet, headerAAt, addressAt}
 use Rattle.spach.proofs.Given.{address-given}
 use Rattle.arq.specs.declared.ArqHeader.{ArqHeader}
 use Rattle.arq.specs.declared.ArqFrame.{ArqFrame}
 use Rattle.arq.specs.Frame.{room, aBeginOf, aContinueOf, blankFrame}
-use Rattle.arq.specs.Decode.{headerAt, decodeBegin, decodeContinue, decodeKind, decodeUsage, decodeOf}
+use Rattle.arq.specs.Decode.{decodeOf}
+use Rattle.arq.specs.Parts.{headerAt, decodeBegin, decodeContinue, decodeKind, decodeUsage}
+use Rattle.arq.proofs.Parts.{decode-parts}
 
 -- a Begin: reserved, filler, the frame
 module _ (a : HeaderA) (bs : List Bool) (d : Address) {x : ℕ} (ex : x ≡ field (d .reader .offset + 7) 2 bs) where
@@ -81,14 +84,11 @@ module _ (a : HeaderA) (bs : List Bool) {x : ℕ} (ex : x ≡ usageOf (a .channe
 -- length, padding, header A
 module _ (xs : List ℕ) where
   pub decode-length : (length xs ≡ 14 → ⊥) → refuses 1 ≡ decodeOf xs
-  unfolding decodeOf
-  decode-length h = rw (ne-eqb (length xs) 14 h)
+  decode-length h = rw (decode-parts xs, ne-eqb (length xs) 14 h)
 
   module _ (n : length xs ≡ 14) {x : ℕ} (ex : x ≡ field 109 3 (bitsOf xs)) where
     pub decode-padding : (x ≡ 0 → ⊥) → refuses 15 ≡ decodeOf xs
-    unfolding decodeOf
-    decode-padding h = rw (eq-eqb (length xs) 14 n, ← ex, ne-eqb x 0 h)
+    decode-padding h = rw (decode-parts xs, eq-eqb (length xs) 14 n, ← ex, ne-eqb x 0 h)
 
     pub decode-header : {o : Outcome HeaderA} → x ≡ 0 → o ≡ headerAAt 0 (bitsOf xs) → andThen o (λ a. decodeUsage a (bitsOf xs)) ≡ decodeOf xs
-    unfolding decodeOf
-    decode-header h eo = rw (eq-eqb (length xs) 14 n, ← ex, eq-eqb x 0 h, ← eo)
+    decode-header h eo = rw (decode-parts xs, eq-eqb (length xs) 14 n, ← ex, eq-eqb x 0 h, ← eo)

@@ -2,19 +2,21 @@
 use mathlib.Core.Path.{_≡_, refl, sym, ap, subst, _∙_}
 use mathlib.Core.Bool.{Bool, true, false, cond, not, _||_}
 use mathlib.Core.List.{List, [], _∷_, _++_}
-use Prim.Native.Nat.{ℕ, zero, suc, _+_, _-_, _*_, _%_, _≤_, min}
+use Prim.Native.Nat.{ℕ, zero, suc, _+_, _-_, _*_, _%_, _^_, _≤_, _<_, min}
 use native.Mathlib.Omega.{arith}
+use native.Mathlib.Nat.{pow-le-pow-right}
 use lib.Dec.{eqb, ltb}
 use lib.ListN.{length, take, drop, length-take}
+use lib.Seq.{take-take, drop-drop}
 use borrow.Author.Tests.{eqb-true, not-false, ltb-false}
-use Rattle.field.specs.Bits.{bits, bitsOf, octets, field}
+use Rattle.field.specs.Bits.{bits, value, bitsOf, octets, field}
 use Rattle.field.specs.Layout.{layout, zeros, upTo, anySet}
-use Rattle.field.proofs.Laws.{bits-mod, field-lt, length-bitsOf, length-octets}
+use Rattle.field.proofs.Laws.{bits-mod, value-lt, field-lt, length-bitsOf, length-octets}
 use Rattle.field.proofs.Cuts.{length-upTo, bitsOf-filled, anySet-upTo}
 use Rattle.field.proofs.Set.{anySet-none}
 use Rattle.rach.specs.Identity.{typeOf, widthOf, identityOf, encodable}
 use Rattle.rach.specs.declared.MobileIdentity.{MobileIdentity}
-use Rattle.rach.proofs.Laws.{width-most, type-identity}
+use Rattle.rach.proofs.Laws.{type-lt, width-most, type-identity}
 use Rattle.spach.specs.declared.Channel.{Channel}
 use Rattle.spach.specs.declared.Channel.the-variants.{Arch, Smsch, Pch}
 use Rattle.spach.specs.declared.HeaderA.{HeaderA}
@@ -29,11 +31,13 @@ use Rattle.arq.specs.declared.ArqFrame.{ArqFrame}
 use Rattle.arq.specs.declared.PackedFrame.{PackedFrame}
 use Rattle.arq.specs.Frame.{begin, continue, room, beginData, continueData, packed, beginFrame, continueFrame, aBegin, aContinue}
 use Rattle.arq.specs.Encode.{headerChecked, beginChecked, continueChecked, byKind, encodeOf}
-use Rattle.arq.specs.Decode.{headerAt, decodeBegin, decodeContinue, decodeKind, decodeUsage, decodeOf}
+use Rattle.arq.specs.Decode.{decodeOf}
+use Rattle.arq.specs.Parts.{headerAt, decodeBegin, decodeContinue, decodeKind, decodeUsage, decodeByParts}
 use Rattle.arq.specs.Cut.{continues, cutFrame, countOf, frameOf}
-use Rattle.arq.specs.Exactly.{said, table, beginTable, continueTable, cutTable, readBeginTable, readContinueTable, decodeTable, beginBits, continueBits, BeginAlike, ContinueAlike, ReadAlike, GivenOut, CutBegin, CutContinue}
+use Rattle.arq.specs.Exactly.{said, table, beginTable, continueTable, cutTable, readBeginTable, readContinueTable, decodeTable, beginBits, continueBits, BeginAlike, ContinueAlike, ReadAlike, SkippedAlike, GivenOut, CutBegin, CutContinue}
 use Rattle.arq.proofs.Cuts.{room-most, begin-holds, continue-holds}
 use Rattle.arq.proofs.Laid.{packed-bits}
+use Rattle.arq.proofs.Parts.{then-refuse, decode-parts}
 use Rattle.arq.proofs.Round.{header-accepted}
 
 -- ---- refusals
@@ -41,10 +45,6 @@ use Rattle.arq.proofs.Round.{header-accepted}
 said-refuse : {A : Type 0} (t : Bool) (n : ℕ) (o : Outcome A) → said (refuse t n o) ≡ refuse t n (said o)
 said-refuse true n o = refl
 said-refuse false n o = refl
-
-then-refuse : {A B : Type 0} (t : Bool) (n : ℕ) (o : Outcome A) (f : A → Outcome B) → andThen (refuse t n o) f ≡ refuse t n (andThen o f)
-then-refuse true n o f = refl
-then-refuse false n o f = refl
 
 -- what follows a test counts only where the test does not hold
 refuse-same : {A : Type 0} (t : Bool) (n : ℕ) {o p : Outcome A} → (t ≡ false → o ≡ p) → refuse t n o ≡ refuse t n p
@@ -218,10 +218,10 @@ module _ (bs : List Bool) where
       by false false = refl
 
 pub decode-said : (xs : List ℕ) → said (decodeOf xs) ≡ decodeTable xs
-unfolding decodeOf
 decode-said xs =
     let bs : List Bool = bitsOf xs in
-    said-refuse (not (eqb (length xs) 14)) 1 _
+    ap said (decode-parts xs)
+    ∙ said-refuse (not (eqb (length xs) 14)) 1 _
     ∙ refuse-same (not (eqb (length xs) 14)) 1
     (λ e. let n : length xs ≡ 14 = eqb-true (length xs) 14 (not-false _ e) in
     let l : 12 ≤ length bs = omega (arith, length-bitsOf xs) in
@@ -239,11 +239,19 @@ begin-out h i n b d l m = record {
   as-continue = λ e. let z : _≡_ {A = ℕ} 0 1 = cc in absurd (omega arith);
 }
 
-continue-out : (h : ArqHeader) (t k : ℕ) (d : List Bool) → length d ≤ 79 → GivenOut (aContinue h t k d)
-continue-out h t k d l = record {
+continue-out : (h : ArqHeader) (t k : ℕ) (d : List Bool) → t < 4 → length d ≤ 79 → GivenOut (aContinue h t k d)
+continue-out h t k d m l = record {
   as-begin = λ e. let z : _≡_ {A = ℕ} 0 1 = cc in absurd (omega arith);
-  as-continue = λ e. record { octets = length-octets 10 (upTo 80 d); unread = unread 10 79 d (omega arith) l; identity = refl; count = refl; bits = refl; other = refl };
+  as-continue = λ e. record { type = m; octets = length-octets 10 (upTo 80 d); unread = unread 10 79 d (omega arith) l; identity = refl; count = refl; bits = refl; other = refl };
 }
+
+-- two bits are a type
+type-small : (bs : List Bool) → field 10 2 bs < 4
+unfolding field
+type-small bs =
+    let l : length (take 2 (drop 10 bs)) ≤ 2 = simp length-take (omega arith) in
+    let p : 2 ^ length (take 2 (drop 10 bs)) ≤ 2 ^ 2 = pow-le-pow-right {n = 2} (omega arith) {i = length (take 2 (drop 10 bs))} {j = 2} l in
+    omega (arith, value-lt (take 2 (drop 10 bs)))
 
 -- what decode gives, and how many data bits a Begin of it has
 abbrev Heard : ArqFrame → Type 0
@@ -270,7 +278,7 @@ module _ (a : HeaderA) (bs : List Bool) (f : ArqFrame) where
       let y = passed (ltb 25 (field 25 5 bs)) 12 _ (x .1) in
       let same : aContinue h (field 10 2 bs) (field 25 5 bs) d ≡ f = gives-same (y .1) in
       let m : length d ≤ 79 = simp length-take (omega arith) in
-      subst Heard same (continue-out h (field 10 2 bs) (field 25 5 bs) d m, λ z. let v : _≡_ {A = ℕ} 0 1 = cc in absurd (omega arith))
+      subst Heard same (continue-out h (field 10 2 bs) (field 25 5 bs) d (type-small bs) m, λ z. let v : _≡_ {A = ℕ} 0 1 = cc in absurd (omega arith))
 
   kind-heard : decodeKind a bs ≡ gives f → Heard f
   kind-heard = by (eqb (field 7 3 bs) 5) (eqb (field 7 3 bs) 6)
@@ -281,14 +289,78 @@ module _ (a : HeaderA) (bs : List Bool) (f : ArqFrame) where
       by false false e = let z : _≡_ {A = ℕ} 0 1 = cc in absurd (omega arith)
 
 pub decode-heard : (xs : List ℕ) (f : ArqFrame) → decodeOf xs ≡ gives f → Heard f
-unfolding decodeOf
 decode-heard xs f e =
     let bs : List Bool = bitsOf xs in
-    let x = passed (not (eqb (length xs) 14)) 1 _ e in
+    let x = passed (not (eqb (length xs) 14)) 1 _ (sym (decode-parts xs) ∙ e) in
     let y = passed (not (eqb (field 109 3 bs) 0)) 15 _ (x .1) in
     let g = then-gives (headerAAt 0 bs) _ (y .1) in
     let u = passed (eqb (usageOf (g .0 .channel)) 7) 3 _ (g .2) in
     kind-heard (g .0) bs f (u .1)
+
+-- ---- the skipped bit
+
+-- a part of the first n bits is that of them all
+front : (p u n : ℕ) (cs : List Bool) → p + u ≤ n → take u (drop p (take n cs)) ≡ take u (drop p cs)
+front zero u n cs l = take-take u n cs (omega arith)
+front (suc p) u zero cs l = absurd (omega arith)
+front (suc p) u (suc n) [] l = refl
+front (suc p) u (suc n) (x ∷ cs) l = front p u n cs (omega arith)
+
+then-same : {A B : Type 0} (o : Outcome A) (f g : A → Outcome B) → ((a : A) → f a ≡ g a) → andThen o f ≡ andThen o g
+then-same (gives a) f g h = h a
+then-same (refuses n) f g h = refl
+
+module _ (ls bs : List Bool) (before : take 12 ls ≡ take 12 bs) (behind : drop 13 ls ≡ drop 13 bs) where
+  -- fields up to it, and past it
+  field-before : (p u : ℕ) → p + u ≤ 12 → field p u ls ≡ field p u bs
+  unfolding field
+  field-before p u l = ap value (sym (front p u 12 ls l) ∙ ap (λ (cs : List Bool). take u (drop p cs)) before ∙ front p u 12 bs l)
+
+  past : (p : ℕ) → drop (13 + p) ls ≡ drop (13 + p) bs
+  past p = sym (drop-drop p 13 ls) ∙ ap (drop p) behind ∙ drop-drop p 13 bs
+
+  field-behind : (p u : ℕ) → field (13 + p) u ls ≡ field (13 + p) u bs
+  unfolding field
+  field-behind p u = ap (λ (cs : List Bool). value (take u cs)) (past p)
+
+  header-skips : headerAAt 0 ls ≡ headerAAt 0 bs
+  unfolding headerAAt
+  header-skips = rw (field-before 0 3 (omega arith), field-before 3 1 (omega arith), field-before 4 1 (omega arith), field-before 5 1 (omega arith), field-before 6 1 (omega arith))
+
+  continue-skips : (h : HeaderA) → decodeContinue h ls ≡ decodeContinue h bs
+  continue-skips h =
+      let response : field 13 1 ls ≡ field 13 1 bs = field-behind 0 1 in
+      let echo : field 14 7 ls ≡ field 14 7 bs = field-behind 1 7 in
+      let reserved : field 21 2 ls ≡ field 21 2 bs = field-behind 8 2 in
+      let polling : field 23 1 ls ≡ field 23 1 bs = field-behind 10 1 in
+      let mode : field 24 1 ls ≡ field 24 1 bs = field-behind 11 1 in
+      let number : field 25 5 ls ≡ field 25 5 bs = field-behind 12 5 in
+      let rest : drop 30 ls ≡ drop 30 bs = past 17 in
+      rw (field-before 10 2 (omega arith), response, echo, reserved, polling, mode, number, rest)
+
+  kind-skips : field 7 3 ls ≡ 6 → (h : HeaderA) → decodeKind h ls ≡ decodeKind h bs
+  kind-skips k h =
+      let j : field 7 3 bs ≡ 6 = sym (field-before 7 3 (omega arith)) ∙ k in
+      rw (k, j) (continue-skips h)
+
+-- it does not change what is decoded of a Continue
+pub continue-alike : (xs ys : List ℕ) → field 7 3 (bitsOf xs) ≡ 6 → SkippedAlike xs ys → decodeOf xs ≡ decodeOf ys
+continue-alike xs ys k s = decode-parts xs ∙ (same ∙ sym (decode-parts ys))
+  where
+    ls : List Bool
+    ls = bitsOf xs
+
+    bs : List Bool
+    bs = bitsOf ys
+
+    padding : field 109 3 ls ≡ field 109 3 bs
+    padding = field-behind ls bs (s .before) (s .behind) 96 3
+
+    same : decodeByParts xs ≡ decodeByParts ys
+    same =
+        rw (s .size, padding, header-skips ls bs (s .before) (s .behind))
+        (ap (λ (o : Outcome ArqFrame). refuse (not (eqb (length ys) 14)) 1 (refuse (not (eqb (field 109 3 bs) 0)) 15 o))
+        (then-same (headerAAt 0 bs) (λ h. decodeUsage h ls) (λ h. decodeUsage h bs) (λ h. ap (refuse (eqb (usageOf (h .channel)) 7) 3) (kind-skips ls bs (s .before) (s .behind) k h))))
 
 -- ---- the cut
 
@@ -330,7 +402,7 @@ module _ (h : ArqHeader) (i : MobileIdentity) (m : List ℕ) where
   cut-out (suc k) =
       let d : List Bool = upTo 79 (drop (room i + 79 * k) (bitsOf m)) in
       let l : length d ≡ 79 = length-upTo 79 (drop (room i + 79 * k) (bitsOf m)) in
-      continue-out h (typeOf i) k d (omega arith)
+      continue-out h (typeOf i) k d (type-lt i) (omega arith)
 
   pub frame-out : (k : ℕ) (f : ArqFrame) → frameOf h i m k ≡ gives f → GivenOut f
   frame-out k f e = subst GivenOut (frame-same k f e) (cut-out k)

@@ -25,7 +25,9 @@ use Rattle.arq.specs.declared.ResponseMode.{ResponseMode}
 use Rattle.arq.specs.declared.ResponseMode.the-variants.{Contention, Reservation}
 use Rattle.arq.specs.declared.ArqHeader.{ArqHeader}
 use Rattle.arq.specs.Frame.{modeOf, restOf, begin, continue, room, packed, aBegin, aContinue}
-use Rattle.arq.specs.Decode.{headerAt, decodeKind, decodeOf}
+use Rattle.arq.specs.Decode.{decodeOf}
+use Rattle.arq.specs.Parts.{headerAt, decodeKind}
+use Rattle.arq.proofs.Parts.{decode-parts}
 
 -- a response mode that was laid
 pub mode-laid : (m : ResponseMode) {x : ℕ} → x ≡ modeOf m % 2 ^ 1 → cond (not (eqb x 0)) Reservation Contention ≡ m
@@ -76,8 +78,7 @@ module _ (fs : List (ℕ × ℕ)) (r : ℕ) (d : List Bool) (whole : total fs + 
 -- octets, decoded up to the kind
 pub decode-opens : (xs : List ℕ) (bs : List Bool) {a : HeaderA} → length xs ≡ 14 → bitsOf xs ≡ bs → field 109 3 bs ≡ 0
     → headerAAt 0 bs ≡ gives a → eqb (usageOf (a .channel)) 7 ≡ false → decodeOf xs ≡ decodeKind a bs
-unfolding decodeOf
-decode-opens xs bs n b p e u = rw (b, n, p, e, u)
+decode-opens xs bs n b p e u = rw (decode-parts xs, b, n, p, e, u)
 
 -- a packed frame, decoded up to the kind: what is left is to read the rest of the table and the data
 pub opens : (h : ArqHeader) (fs : List (ℕ × ℕ)) (r : ℕ) (d : List Bool) → total (headerA (h .channel) (h .flags) ++ fs) + r ≡ 109 → length d ≤ r

@@ -21,9 +21,9 @@ use Rattle.arq.specs.Cut.{continues, countOf, frameOf}
 use Rattle.arq.specs.Round.{thereAndBack, normal, widened, carried}
 use Rattle.arq.proofs.Cuts.{carries, carries-all, carries-octets, count-holds, count-least, count-most}
 use Rattle.arq.proofs.Round.{encode-back, cut-back}
-use Rattle.arq.proofs.Again.{decode-again, decode-same, decode-same-begin}
-use Rattle.arq.specs.Exactly.{said, table, beginTable, continueTable, cutTable, decodeTable, beginBits, continueBits, ReadAlike, GivenOut, CutBegin, CutContinue}
-use Rattle.arq.proofs.Exactly.{begin-said, continue-said, begin-lays, continue-lays, encode-alike, decode-said, decode-heard, count-said, frame-said, count-fits, frame-out, begin-given, continue-given}
+use Rattle.arq.proofs.Reencoded.{decode-again, decode-same, decode-same-begin}
+use Rattle.arq.specs.Exactly.{said, table, beginTable, continueTable, cutTable, decodeTable, beginBits, continueBits, ReadAlike, SkippedAlike, GivenOut, CutBegin, CutContinue}
+use Rattle.arq.proofs.Exactly.{begin-said, continue-said, begin-lays, continue-lays, encode-alike, decode-said, decode-heard, continue-alike, count-said, frame-said, count-fits, frame-out, begin-given, continue-given}
 
 -- What encode accepts is decoded to the same frame, as far as it is read. The premise holds of every frame: its octet
 -- count is an octet.
@@ -98,6 +98,10 @@ decode-refuses = decode-said
 -- "In every frame given out, unread bits are zero and so are fields that only the other kind has", by decode
 pub decode-gives-out : (xs : List ℕ) (f : ArqFrame) → decodeOf xs ≡ gives f → GivenOut f
 decode-gives-out xs f e = decode-heard xs f e .0
+
+-- "`decode` .. skips it in Continue": the bit after the identity type changes nothing of what a Continue comes to
+pub decode-skips : (xs ys : List ℕ) → field 7 3 (bitsOf xs) ≡ 6 → SkippedAlike xs ys → decodeOf xs ≡ decodeOf ys
+decode-skips = continue-alike
 
 -- a Begin that was decoded has as many data bits as it has room for
 pub decode-fills : (xs : List ℕ) (f : ArqFrame) → decodeOf xs ≡ gives f → f .kind ≡ Begin → f .«begin_bits» ≡ 75 - widthOf (typeOf (f .identity))

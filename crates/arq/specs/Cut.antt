@@ -14,12 +14,12 @@ use Rattle.arq.specs.declared.ArqHeader.{ArqHeader}
 use Rattle.arq.specs.declared.ArqFrame.{ArqFrame}
 use Rattle.arq.specs.declared.CountAnswer.{CountAnswer}
 use Rattle.arq.specs.declared.CountAnswer.the-variants.{Frames, Refused}
-use Rattle.arq.specs.Frame.{room, aBegin, aContinue}
+use Rattle.arq.specs.Frame.{continueDataBits, room, aBegin, aContinue}
 use Rattle.arq.specs.Encode.{headerChecked}
 
--- how many Continues a message of n octets needs after its Begin: 79 bits each of what the Begin has no room for
+-- how many Continues a message of n octets needs after its Begin, for what that has no room for: the quotient, rounded up
 abbrev pub continues : MobileIdentity → ℕ → ℕ
-continues i n = (8 * n - room i + 78) / 79
+continues i n = (8 * n - room i + (continueDataBits - 1)) / continueDataBits
 
 -- the checks of both calls: over 255 octets 1; 3 and 11; identity 2
 abbrev pub cutChecked : {A : Type 0} → ArqHeader → MobileIdentity → List ℕ → Outcome A → Outcome A
@@ -35,7 +35,7 @@ countOf h i m = cutChecked h i m (gives (1 + continues i (length m)))
 -- frame 0 of a message is its Begin, frame k + 1 its Continue k: the header goes into each as it is
 abbrev pub cutFrame : ArqHeader → MobileIdentity → List ℕ → ℕ → ArqFrame
 cutFrame h i m zero = aBegin h i (length m) (min (8 * length m) (room i)) (take (room i) (bitsOf m))
-cutFrame h i m (suc k) = aContinue h (typeOf i) k (upTo 79 (drop (room i + 79 * k) (bitsOf m)))
+cutFrame h i m (suc k) = aContinue h (typeOf i) k (upTo continueDataBits (drop (room i + continueDataBits * k) (bitsOf m)))
 
 -- frame k of a message, k from 0
 unfoldable pub frameOf : ArqHeader → MobileIdentity → List ℕ → ℕ → Outcome ArqFrame

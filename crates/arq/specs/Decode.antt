@@ -1,86 +1,70 @@
 -- 01, *Decode*: not 14 octets 1; padding 15; usage not 3, 4, 7 3; fourth flag 6; Pch 3; kind 4; Begin's bit after the
--- type 4; encrypted 5; identity zero 2; reserved 6; Begin filler 7; Continue number over 25 12.
--- The offsets are those of the tables in Frame.antt: header A has bits 0 to 6; header B the kind at 7, the identity type at
--- 10, the bit after it at 12, the reservation response at 13. A Begin's address is the encrypted bit at 14 and the identity
--- from 15 on; its rest starts where the identity ends. A Continue's rest starts at 14, so its number is at 25, its data at 30.
--- In the rest, echo has 7 bits, then reserved 2 (at 7), polling (at 9), mode (at 10); the octet count follows at 11, a Begin's
--- data at 19. 109 bits in all; the padding is 3 more. The round trips of Theorems.antt tie the two readings. The octets are one
--- information block whose CRC was found good. Assumes nothing.
-use mathlib.Core.Bool.{Bool, cond, not}
+-- type 4; encrypted 5; identity zero 2; reserved 6; Begin filler 7; Continue number over 25 12. The fields are those of the tables
+-- in spach's Header and in Frame: `reading` takes them one after the other, each in its table's width, and names them. The octets
+-- are one information block whose CRC was found good. Assumes nothing.
+use mathlib.Core.Bool.{Bool, cond, not, _||_}
 use mathlib.Core.List.{List}
-use Prim.Native.Nat.{ℕ, _+_, _*_}
+use Prim.Native.Nat.{ℕ, _*_}
 use lib.Dec.{eqb, ltb}
 use lib.ListN.{length, take, drop}
 use Rattle.field.specs.Bits.{bitsOf, field}
-use Rattle.field.specs.Layout.{anySet}
-use Rattle.spach.specs.declared.HeaderA.{HeaderA}
-use Rattle.spach.specs.declared.Address.{Address}
-use Rattle.spach.specs.Refusal.{Outcome, gives, refuses, refuse, andThen}
-use Rattle.spach.specs.Header.{usageOf, isSet, headerAAt, addressAt}
+use Rattle.field.specs.Layout.{reading, anySet}
+use Rattle.rach.specs.Identity.{identityOf}
+use Rattle.spach.specs.declared.Channel.the-variants.{Arch, Smsch, Pch}
+use Rattle.spach.specs.Refusal.{Outcome, gives, refuse}
+use Rattle.spach.specs.Header.{usageOf, headerA, headerB, addressOf, nonzero}
 use Rattle.arq.specs.declared.ResponseMode.{ResponseMode}
 use Rattle.arq.specs.declared.ResponseMode.the-variants.{Contention, Reservation}
 use Rattle.arq.specs.declared.FrameKind.the-variants.{Begin, Continue}
 use Rattle.arq.specs.declared.ArqHeader.{ArqHeader}
 use Rattle.arq.specs.declared.ArqFrame.{ArqFrame}
-use Rattle.arq.specs.Frame.{kindOf, room, aBegin, aContinue}
+use Rattle.arq.specs.Frame.{kindOf, beginRest, continueRest, informationBits, continueDataBits, room, blankHeader, aBegin, aContinue}
 
 -- response mode: 0 Contention, 1 Reservation
 abbrev pub modeAt : Bool → ResponseMode
 modeAt set = cond set Reservation Contention
 
--- the rest at offset o, which both kinds have: echo 7 bits, reserved 2, polling, response mode
-abbrev pub headerAt : HeaderA → Bool → ℕ → List Bool → ArqHeader
-headerAt a response o bs = record {
-  channel = a .channel;
+-- the header of a frame by the numbers in its fields; of a usage that is not refused, Arch or Smsch
+abbrev pub headerFrom : ℕ → ℕ → ℕ → ℕ → ℕ → ℕ → ℕ → ℕ → ArqHeader
+headerFrom usage pch bcch modifier response echo polling mode = record {
+  channel = cond (eqb usage (usageOf Arch)) Arch Smsch;
   flags = record {
-    «pch_continuation» = a .flags .«pch_continuation»;
-    «bcch_change» = a .flags .«bcch_change»;
-    «paging_frame_modifier» = a .flags .«paging_frame_modifier»;
-    «reservation_response» = response;
+    «pch_continuation» = nonzero pch;
+    «bcch_change» = nonzero bcch;
+    «paging_frame_modifier» = nonzero modifier;
+    «reservation_response» = nonzero response;
   };
-  «partial_echo» = field o 7 bs;
-  polling = isSet (o + 9) bs;
-  «response_mode» = modeAt (isSet (o + 10) bs);
+  «partial_echo» = echo;
+  polling = nonzero polling;
+  «response_mode» = modeAt (nonzero mode);
 }
 
--- reserved 6; else what follows
-abbrev pub reservedChecked : {A : Type 0} → ℕ → List Bool → Outcome A → Outcome A
-reservedChecked o bs next = refuse (not (eqb (field (o + 7) 2 bs) 0)) 6 next
-
--- a Begin after its address: the rest and the octet count, then as many data bits as it has room for
-abbrev pub decodeBegin : HeaderA → List Bool → Address → Outcome ArqFrame
-decodeBegin h bs a =
-    let o = a .reader .offset in
-    let n = field (o + 11) 8 bs in
-    let data-bits = take (room (a .identity)) (drop (o + 19) bs) in
-    reservedChecked o bs
-    (refuse (anySet (drop (8 * n) data-bits)) 7
-    (gives (aBegin (headerAt h (a .«reservation_response») o bs) (a .identity) n (room (a .identity)) data-bits)))
-
--- a Continue from its identity type on: the bit after it is skipped
-abbrev pub decodeContinue : HeaderA → List Bool → Outcome ArqFrame
-decodeContinue h bs =
-    let k = field 25 5 bs in
-    reservedChecked 14 bs
-    (refuse (ltb 25 k) 12
-    (gives (aContinue (headerAt h (isSet 13 bs) 14 bs) (field 10 2 bs) k (take 79 (drop 30 bs)))))
-
--- by kind; another is refused 4
-abbrev pub decodeKind : HeaderA → List Bool → Outcome ArqFrame
-decodeKind h bs =
-    cond (eqb (field 7 3 bs) (kindOf Begin)) (andThen (addressAt 10 bs) (decodeBegin h bs))
-    (cond (eqb (field 7 3 bs) (kindOf Continue)) (decodeContinue h bs)
-    (refuses 4))
-
--- Pch 3, after the fourth flag
-abbrev pub decodeUsage : HeaderA → List Bool → Outcome ArqFrame
-decodeUsage h bs = refuse (eqb (usageOf (h .channel)) 7) 3 (decodeKind h bs)
-
--- the refusals in 01's order: not 14 octets 1; padding 15; header A; then as above
+-- the refusals in 01's order, from the kind on of each kind (both have reserved), and the frame
 unfoldable pub decodeOf : List ℕ → Outcome ArqFrame
 decodeOf xs =
     let bs = bitsOf xs in
     refuse (not (eqb (length xs) 14)) 1
-    (refuse (not (eqb (field 109 3 bs) 0)) 15
-    (andThen (headerAAt 0 bs) (λ h.
-    decodeUsage h bs)))
+    (refuse (nonzero (field informationBits 3 bs)) 15
+    (reading (headerA Arch (blankHeader .flags)) 0 bs (λ usage pch bcch modifier fourth o.
+    refuse (not (eqb usage (usageOf Arch) || eqb usage (usageOf Smsch) || eqb usage (usageOf Pch))) 3
+    (refuse (nonzero fourth) 6
+    (refuse (eqb usage (usageOf Pch)) 3
+    (reading (headerB 0 0 (blankHeader .flags)) o bs (λ kind type after response o.
+    refuse (not (eqb kind (kindOf Begin) || eqb kind (kindOf Continue))) 4
+    (cond (eqb kind (kindOf Begin))
+    -- a Begin
+    (refuse (nonzero after) 4
+    (reading (addressOf type 0) o bs (λ encrypted value o.
+    refuse (nonzero encrypted) 5
+    (refuse (eqb value 0) 2
+    (reading (beginRest blankHeader 0) o bs (λ echo reserved polling mode count o.
+    let i = identityOf type value in
+    let data-bits = take (room i) (drop o bs) in
+    refuse (nonzero reserved) 6
+    (refuse (anySet (drop (8 * count) data-bits)) 7
+    (gives (aBegin (headerFrom usage pch bcch modifier response echo polling mode) i count (room i) data-bits)))))))))
+    -- a Continue: the bit after its type is skipped
+    (reading (continueRest blankHeader 0) o bs (λ echo reserved polling mode number o.
+    refuse (nonzero reserved) 6
+    (refuse (ltb 25 number) 12
+    (gives (aContinue (headerFrom usage pch bcch modifier response echo polling mode) type number (take continueDataBits (drop o bs)))))))))))))))

@@ -1,10 +1,11 @@
 -- 01, module 3 and "Refused": the words of the laws (proofs/Theorems.antt) that hold encode, decode and the cut to 01 over all inputs: the
 -- refusals as tables of tests and numbers, the bits of a frame as one table, what is read of a frame, and what a frame given out
--- is. Each is said by the fields themselves, apart from the definitions that it holds. Assumes nothing.
+-- is. Each is said by the fields themselves, apart from the definitions that it holds; the words of bits and identities that it uses are held by
+-- laws of their own (`Exactly` of field, `Laws` of rach). Assumes nothing.
 use mathlib.Core.Path.{_≡_}
 use mathlib.Core.Bool.{Bool, false, cond, not, _||_}
 use mathlib.Core.List.{List, [], _∷_}
-use Prim.Native.Nat.{ℕ, _+_, _-_, _*_, _%_, min}
+use Prim.Native.Nat.{ℕ, _+_, _-_, _*_, _%_, _<_, min}
 use lib.Dec.{eqb, ltb}
 use lib.ListN.{length, take, drop, replicate}
 use Rattle.field.specs.Bits.{bit, bitsOf, field}
@@ -159,6 +160,12 @@ pub record ReadAlike (f g : ArqFrame) : Type 0 where
   pub as-begin : f .kind ≡ Begin → BeginAlike f g
   pub as-continue : f .kind ≡ Continue → ContinueAlike f g
 
+-- the octets of two frames agree but for the bit after the identity type, bit 12
+pub record SkippedAlike (xs ys : List ℕ) : Type 0 where
+  pub size : length xs ≡ length ys
+  pub before : take 12 (bitsOf xs) ≡ take 12 (bitsOf ys)
+  pub behind : drop 13 (bitsOf xs) ≡ drop 13 (bitsOf ys)
+
 -- ---- what is given out
 
 -- a Begin given out: its unread bits are zero, and so is all that only a Continue has
@@ -169,8 +176,9 @@ pub record BeginOut (f : ArqFrame) : Type 0 where
   pub number : f .«frame_number» ≡ 0
   pub other : f .«continue_data» ≡ replicate 10 0
 
--- a Continue given out: its last bit is zero, and so is all that only a Begin has (an identity: Tmsi20 of 0)
+-- a Continue given out: its type is one of the four, its last bit is zero, and so is all that only a Begin has (an identity: Tmsi20 of 0)
 pub record ContinueOut (f : ArqFrame) : Type 0 where
+  pub type : f .«identity_type» < 4
   pub octets : length (f .«continue_data») ≡ 10
   pub unread : anySet (drop 79 (bitsOf (f .«continue_data»))) ≡ false
   pub identity : f .identity ≡ Tmsi20 0

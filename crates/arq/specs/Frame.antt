@@ -41,13 +41,29 @@ restOf h =
     ∷ (1, modeOf (h .«response_mode»))
     ∷ []
 
--- a Begin up to its data: header A, header B with its kind, address, the rest with octet count 8
-abbrev pub begin : ArqHeader → MobileIdentity → ℕ → List (ℕ × ℕ)
-begin h i n = headerA (h .channel) (h .flags) ++ headerB (kindOf Begin) (typeOf i) (h .flags) ++ address i ++ restOf h ++ (8, n) ∷ []
+-- in a Begin then octet count 8
+abbrev pub beginRest : ArqHeader → ℕ → List (ℕ × ℕ)
+beginRest h n = restOf h ++ (8, n) ∷ []
 
--- a Continue up to its data: header A, header B with its kind, the rest with number 5
+-- in a Continue number 5
+abbrev pub continueRest : ArqHeader → ℕ → List (ℕ × ℕ)
+continueRest h k = restOf h ++ (5, k) ∷ []
+
+-- a Begin up to its data: header A, header B with its kind, address, the rest
+abbrev pub begin : ArqHeader → MobileIdentity → ℕ → List (ℕ × ℕ)
+begin h i n = headerA (h .channel) (h .flags) ++ headerB (kindOf Begin) (typeOf i) (h .flags) ++ address i ++ beginRest h n
+
+-- a Continue up to its data: header A, header B with its kind, the rest
 abbrev pub continue : ArqHeader → ℕ → ℕ → List (ℕ × ℕ)
-continue h t k = headerA (h .channel) (h .flags) ++ headerB (kindOf Continue) t (h .flags) ++ restOf h ++ (5, k) ∷ []
+continue h t k = headerA (h .channel) (h .flags) ++ headerB (kindOf Continue) t (h .flags) ++ continueRest h k
+
+-- INFORMATION_BITS: how many bits a frame has
+abbrev pub informationBits : ℕ
+informationBits = 109
+
+-- CONTINUE_DATA_BITS: how many data bits a Continue has
+abbrev pub continueDataBits : ℕ
+continueDataBits = 79
 
 -- Begin data holds 75 − width bits: 55, 51, 41, 25
 abbrev pub room : MobileIdentity → ℕ
@@ -57,9 +73,9 @@ room i = 75 - widthOf (typeOf i)
 abbrev pub beginData : ArqFrame → List Bool
 beginData f = take (f .«begin_bits») (bitsOf (f .«begin_data»))
 
--- of a Continue: 79
+-- of a Continue: all that it has
 abbrev pub continueData : ArqFrame → List Bool
-continueData f = take 79 (bitsOf (f .«continue_data»))
+continueData f = take continueDataBits (bitsOf (f .«continue_data»))
 
 -- 109 bits in 14 octets, zero filled: the last three bits are padding and zero
 unfoldable pub packed : List Bool → PackedFrame

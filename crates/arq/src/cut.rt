@@ -2,6 +2,7 @@
 // Ported from link/spach/arq.rs (chrismoos/136-bts 7c60b63bf4, Apache-2.0) and changed: see NOTICE.
 use super::ArqFrame;
 use super::ArqHeader;
+use super::CONTINUE_DATA_BITS;
 use super::CountAnswer;
 use super::FrameAnswer;
 use super::check;
@@ -14,7 +15,8 @@ ghost use Prim.Native.Nat.{suc, _+_, _*_, _≤_, _<_, min};
 ghost use lib.ListN.{length, take, drop};
 ghost use Rattle.field.specs.Bits.{bitsOf, octets};
 ghost use Rattle.field.specs.Layout.{upTo};
-ghost use Rattle.spach.specs.Refusal.{verdictOf, gives, answered};
+ghost use Rattle.spach.specs.Refusal.{verdictOf, gives};
+ghost use Rattle.spach.specs.Answered.{answered};
 ghost use Rattle.arq.specs.Frame.{blankFrame, frameAnswer};
 ghost use Rattle.arq.specs.Cut.{continues, cutChecked, cutFrame, countAnswer, countOf, frameOf};
 
@@ -32,7 +34,7 @@ fn check_cut(header: ArqHeader, identity: MobileIdentity, message: &[u8]) -> Ver
 }
 
 // The lesser of two counts.
-pub fn least(a: usize, b: usize) -> usize
+pub fn lesser(a: usize, b: usize) -> usize
     ensures { λ r. ⌜ r ≡ min a b ⌝ }
 {
     if a < b { a } else { b }
@@ -48,7 +50,7 @@ pub fn frames_of(identity: MobileIdentity, octets: usize) -> usize
     if bits <= room {
         return 1;
     }
-    1 + (bits - room + 78) / 79
+    1 + (bits - room + (CONTINUE_DATA_BITS - 1)) / CONTINUE_DATA_BITS
 }
 
 // A Begin's data: as many of the first bits as it has room for.
@@ -56,7 +58,7 @@ fn begin_octets(message: &[u8], room: usize) -> [u8; 7]
     requires { ⌜ (length (now message) ≤ 255) × (room ≤ 55) ⌝ }
     ensures { λ r. ⌜ r ≡ octets 7 (upTo 56 (take room (bitsOf (now (message .entry))))) ⌝ }
 {
-    frame::begin_octets(message, 0, least(room, 8 * message.len()))
+    frame::begin_octets(message, 0, lesser(room, 8 * message.len()))
 }
 
 // A Continue's data: the 79 bits from start on.
@@ -64,7 +66,8 @@ fn continue_octets(message: &[u8], start: usize) -> [u8; 10]
     requires { ⌜ (length (now message) ≤ 255) × (start ≤ 8 * length (now message)) ⌝ }
     ensures { λ r. ⌜ r ≡ octets 10 (upTo 80 (upTo 79 (drop start (bitsOf (now (message .entry)))))) ⌝ }
 {
-    frame::continue_octets(message, start, least(79, 8 * message.len() - start))
+    let n = lesser(CONTINUE_DATA_BITS, 8 * message.len() - start);
+    frame::continue_octets(message, start, n)
 }
 
 // The message's Begin.
@@ -73,7 +76,7 @@ fn begin_of(header: ArqHeader, identity: MobileIdentity, message: &[u8]) -> ArqF
     ensures { λ r. ⌜ r ≡ cutFrame header identity (now (message .entry)) 0 ⌝ }
 {
     let room = check::room_of(identity);
-    let bits = least(8 * message.len(), room);
+    let bits = lesser(8 * message.len(), room);
     let octets = begin_octets(message, room);
     frame::a_begin(header, identity, message.len() as u8, bits as u8, octets)
 }
@@ -85,7 +88,7 @@ fn continue_of(header: ArqHeader, identity: MobileIdentity, message: &[u8], k: u
 {
     let room = check::room_of(identity);
     let p = rach::parts(identity);
-    let octets = continue_octets(message, room + 79 * k);
+    let octets = continue_octets(message, room + CONTINUE_DATA_BITS * k);
     frame::a_continue(header, p.identity_type, k as u8, octets)
 }
 

@@ -2,8 +2,12 @@
 // Ported from link/spach/arq.rs (chrismoos/136-bts 7c60b63bf4, Apache-2.0) and changed: see NOTICE.
 use super::ArqFrame;
 use super::ArqHeader;
+use super::BEGIN;
+use super::CONTINUE;
+use super::CONTINUE_DATA_BITS;
 use super::FrameAnswer;
 use super::FrameKind;
+use super::INFORMATION_BITS;
 use super::ResponseMode;
 use rach::MobileIdentity;
 use spach::Channel;
@@ -13,10 +17,12 @@ use spach::Verdict;
 ghost use mathlib.Core.Path.{_≡_};
 ghost use Prim.Native.Nat.{_≤_};
 ghost use lib.ListN.{take, drop};
-ghost use Rattle.field.specs.Bits.{bitsOf, octets as octetsOf, Run};
+ghost use Rattle.field.specs.Bits.{bitsOf, octets as octetsOf};
+ghost use Rattle.field.specs.Spans.{Run};
 ghost use Rattle.field.specs.Layout.{upTo};
-ghost use Rattle.spach.specs.Refusal.{answered, refuses, numberOf};
-ghost use Rattle.arq.specs.Frame.{aBeginOf, aContinueOf, blankFrame, blankHeader, frameAnswer};
+ghost use Rattle.spach.specs.Refusal.{refuses, numberOf};
+ghost use Rattle.spach.specs.Answered.{answered};
+ghost use Rattle.arq.specs.Frame.{informationBits, continueDataBits, kindOf, aBeginOf, aContinueOf, blankFrame, blankHeader, frameAnswer};
 
 pub fn a_begin(
     header: ArqHeader,
@@ -97,6 +103,28 @@ pub fn continue_octets(octets: &[u8], o: usize, n: usize) -> [u8; 10]
     let mut b = [0u8; 10];
     field::copy_bits(&mut b, 0, octets, o, n);
     b
+}
+
+// The constants, as the definitions name them.
+pub fn information_bits() -> usize
+    ensures { λ r. ⌜ r ≡ informationBits ⌝ }
+{
+    INFORMATION_BITS
+}
+
+pub fn continue_data_bits() -> usize
+    ensures { λ r. ⌜ r ≡ continueDataBits ⌝ }
+{
+    CONTINUE_DATA_BITS
+}
+
+pub fn kind_number(kind: FrameKind) -> u64
+    ensures { λ r. ⌜ r ≡ kindOf kind ⌝ }
+{
+    match kind {
+        FrameKind::Begin => BEGIN,
+        FrameKind::Continue => CONTINUE,
+    }
 }
 
 // A refusal beside the blank frame.

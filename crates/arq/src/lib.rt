@@ -12,9 +12,17 @@ use spach::HeaderFlags;
 use spach::SpachError;
 use spach::Verdict;
 ghost use mathlib.Core.Path.{_≡_};
-ghost use Rattle.spach.specs.Refusal.{answered};
+ghost use Rattle.spach.specs.Answered.{answered};
 ghost use Rattle.arq.specs.Frame.{blankPacked};
 ghost use Rattle.arq.specs.Encode.{encodeOf, encodedAnswer};
+
+const BEGIN: u64 = 5;
+
+const CONTINUE: u64 = 6;
+
+const INFORMATION_BITS: usize = 109;
+
+pub const CONTINUE_DATA_BITS: usize = 79;
 
 pub enum ResponseMode {
     Contention,

@@ -1,7 +1,11 @@
 // Decode, in document 01's order: header A, kind, address, the rest, the data.
 // Ported from link/spach/arq.rs (chrismoos/136-bts 7c60b63bf4, Apache-2.0) and changed: see NOTICE.
 use super::ArqHeader;
+use super::BEGIN;
+use super::CONTINUE;
+use super::CONTINUE_DATA_BITS;
 use super::FrameAnswer;
+use super::INFORMATION_BITS;
 use super::ResponseMode;
 use super::check;
 use super::frame;
@@ -18,10 +22,12 @@ ghost use mathlib.Core.Bool.{not};
 ghost use Prim.Native.Nat.{_+_, _≤_};
 ghost use lib.Dec.{eqb};
 ghost use lib.ListN.{length};
-ghost use Rattle.field.specs.Bits.{bitsOf, Run};
-ghost use Rattle.spach.specs.Refusal.{answered};
+ghost use Rattle.field.specs.Bits.{bitsOf};
+ghost use Rattle.field.specs.Spans.{Run};
+ghost use Rattle.spach.specs.Answered.{answered};
 ghost use Rattle.arq.specs.Frame.{room, blankFrame, frameAnswer};
-ghost use Rattle.arq.specs.Decode.{modeAt, headerAt, decodeBegin, decodeContinue, decodeKind, decodeUsage, decodeOf};
+ghost use Rattle.arq.specs.Decode.{modeAt, decodeOf};
+ghost use Rattle.arq.specs.Parts.{headerAt, decodeBegin, decodeContinue, decodeKind, decodeUsage};
 
 fn mode_of(bit: u64) -> ResponseMode
     ensures { λ r. ⌜ r ≡ modeAt (not (eqb bit 0)) ⌝ }
@@ -105,7 +111,7 @@ fn decode_continue(octets: &[u8], a: HeaderA) -> FrameAnswer
             header,
             identity_type as u8,
             k as u8,
-            frame::continue_octets(octets, 30, 79),
+            frame::continue_octets(octets, 30, CONTINUE_DATA_BITS),
         ),
     }
 }
@@ -116,10 +122,10 @@ fn decode_kind(octets: &[u8], a: HeaderA) -> FrameAnswer
     ensures { λ r. ⌜ frameAnswer r ≡ answered blankFrame (decodeKind a (bitsOf (now (octets .entry)))) ⌝ }
 {
     let kind = field::read_field(octets, 7, 3);
-    if kind == 6 {
+    if kind == CONTINUE {
         return decode_continue(octets, a);
     }
-    if kind != 5 {
+    if kind != BEGIN {
         return frame::refused(SpachError::UnsupportedFrame);
     }
     let answer = spach::read_address(octets, Reader { offset: 10 });
@@ -148,7 +154,7 @@ pub fn decode(octets: &[u8]) -> FrameAnswer
     if octets.len() != 14 {
         return frame::refused(SpachError::Length);
     }
-    if field::read_field(octets, 109, 3) != 0 {
+    if field::read_field(octets, INFORMATION_BITS, 3) != 0 {
         return frame::refused(SpachError::Padding);
     }
     let answer = spach::read_header_a(octets, Reader { offset: 0 });

@@ -2,6 +2,9 @@
 // Ported from link/spach/arq.rs (chrismoos/136-bts 7c60b63bf4, Apache-2.0) and changed: see NOTICE.
 use super::ArqFrame;
 use super::ArqHeader;
+use super::BEGIN;
+use super::CONTINUE;
+use super::CONTINUE_DATA_BITS;
 use super::ResponseMode;
 use rach::MobileIdentity;
 use spach::Channel;
@@ -10,7 +13,8 @@ ghost use mathlib.Core.Path.{_≡_};
 ghost use mathlib.Core.List.{[], _∷_, _++_};
 ghost use Prim.Native.Nat.{_+_, _*_, _≤_, _<_};
 ghost use lib.ListN.{take};
-ghost use Rattle.field.specs.Bits.{bit, value, bitsOf, put, splice, Packs, Run};
+ghost use Rattle.field.specs.Bits.{bit, value, bitsOf, put, splice};
+ghost use Rattle.field.specs.Spans.{Packs, Run};
 ghost use Rattle.field.specs.Layout.{layout};
 ghost use Rattle.spach.specs.Header.{headerA, headerB, address};
 ghost use Rattle.arq.specs.Frame.{modeOf, restOf, room, beginFrame, continueFrame};
@@ -125,7 +129,7 @@ pub fn begin(frame: ArqFrame) -> [u8; 14]
     let identity = frame.identity;
     let p = rach::parts(identity);
     let a = with_header_a([0u8; 14], header);
-    let b = with_header_b(a, header, 5, p.identity_type);
+    let b = with_header_b(a, header, BEGIN, p.identity_type);
     let c = with_address(b, identity);
     let d = with_rest(c, 15 + p.width, header, 8, frame.message_octets as u64);
     with_data(
@@ -142,7 +146,7 @@ pub fn continue_frame(frame: ArqFrame) -> [u8; 14]
 {
     let header = frame.header;
     let a = with_header_a([0u8; 14], header);
-    let b = with_header_b(a, header, 6, frame.identity_type);
+    let b = with_header_b(a, header, CONTINUE, frame.identity_type);
     let c = with_rest(b, 14, header, 5, frame.frame_number as u64);
-    with_data(c, 30, &frame.continue_data, 79)
+    with_data(c, 30, &frame.continue_data, CONTINUE_DATA_BITS)
 }

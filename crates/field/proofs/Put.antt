@@ -11,7 +11,8 @@ use lib.Pow.{pow-pos, pow-add, shr-shr, shr-lt, shl-exact, high, low, split}
 use lib.Bits.{bitAnd, and-mask}
 use lib.ListN.{length, take, drop, set, length-append, length-take, length-drop, take-append-drop}
 use lib.Seq.{take-nil, take-at, drop-append-add, drop-append-le, drop-drop, set-split, take-add, take-take}
-use Rattle.field.specs.Bits.{bits, value, bitsOf, field, put, splice, window}
+use Rattle.field.specs.Bits.{bits, value, bitsOf, field, put, splice}
+use Rattle.field.specs.Spans.{window}
 use Rattle.field.proofs.Laws.{length-bits, length-field, length-put, value-lt, value-append, value-bits, bits-append, bits-value, bits-mod, bitsOf-append, bitsOf-take, bitsOf-drop, length-bitsOf}
 use Rattle.field.proofs.Window.{Holds, window-bits, one-shl, length-window}
 

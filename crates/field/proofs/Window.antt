@@ -10,7 +10,8 @@ use lib.Bits.{bitAnd, bitOr, or-shifted, and-mask}
 use lib.ListN.{length, take, drop, getD, length-take, length-drop, take-append-drop}
 use lib.Seq.{drop-drop, take-add, take-suc, getD-drop}
 use native.Mathlib.Numerals.{add-one}
-use Rattle.field.specs.Bits.{bits, value, bitsOf, field, window, Placed}
+use Rattle.field.specs.Bits.{bits, value, bitsOf, field}
+use Rattle.field.specs.Spans.{window, Placed}
 use Rattle.field.proofs.Laws.{bitsOf-take, bitsOf-drop, length-field, field-value, field-left, length-bits, value-lt, value-append, value-bits-lt, bitsOf-append, length-bitsOf}
 
 -- `(acc << 8) | x`, in 64 bits

@@ -4,7 +4,8 @@ ghost use mathlib.Core.Path.{_≡_};
 ghost use Prim.Native.Nat.{_+_, _-_, _*_, _/_, _%_, _^_, _≤_, _<_, min};
 ghost use lib.ListN.{length, take, drop};
 ghost use Rattle.field.specs.Layout.{anySet};
-ghost use Rattle.field.specs.Bits.{bitsOf, field, put, splice, window, Packs, Placed, Run};
+ghost use Rattle.field.specs.Bits.{bitsOf, field, put, splice};
+ghost use Rattle.field.specs.Spans.{window, Packs, Placed, Run};
 
 fn wide(x: u8) -> u64
     ensures { λ r. ⌜ (r ≡ x) × (r < 2 ^ 8) ⌝ }

@@ -18,7 +18,7 @@ use Rattle.inactivity.specs.declared.State.{State}
 use Rattle.inactivity.specs.declared.State.the-variants.{Idle, Waiting, SendingUnsolicited, FinalWait}
 use Rattle.inactivity.specs.declared.Turn.{Turn}
 use Rattle.inactivity.specs.declared.ArqInactivity.{ArqInactivity}
-use Rattle.inactivity.specs.Inactivity.{turn, tokenOf, ownsOf, clocked, inState, renewed, admitted, acts, isIdle, due, solicitedAt, solicitedBy, unsolicitedAt, unsolicitedBy, sentFrom, reported, resetOf, observeOf, receivedFrameOf, advanceOf, unsolicitedOf, solicitedOf}
+use Rattle.inactivity.specs.Inactivity.{newOf, turn, tokenOf, ownsOf, clocked, inState, renewed, admitted, acts, isIdle, due, solicitedAt, solicitedBy, unsolicitedAt, unsolicitedBy, sentFrom, reported, resetOf, observeOf, receivedFrameOf, advanceOf, unsolicitedOf, solicitedOf}
 
 -- the timer at block b, in another state, with an unsolicited status pending or not, under the same token
 abbrev pub goesTo : ArqInactivity → State → ℕ → Bool → ArqInactivity
@@ -40,6 +40,10 @@ refusedBy n s = record { outcome = refuses n; state = s }
 pub record Admits (s : ArqInactivity) (b : ℕ) : Type 0 where
   pub tokens : fewerThan 4 (s .«next_token») ≡ false
   pub later : s .«last_block» ≤ b
+
+-- the constructor, for every first number: idle at block 0, nothing pending, under that token
+pub new-exactly : (first : ℕ) → newOf first ≡ record { state = Idle; «last_block» = 0; «unsolicited_pending» = false; transaction = record { 0 = first }; «next_token» = numberAfter first }
+new-exactly first = refl
 
 module _ (s : ArqInactivity) where
   -- ---- token, owns, reset, observe, received_frame

@@ -1,6 +1,7 @@
 pub mod Apart
 pub mod Calls
-pub mod Kept
+pub mod Invariant
 pub mod Laws
 pub mod Lending
+pub mod Readings
 pub mod Samples

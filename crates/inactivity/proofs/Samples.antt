@@ -19,8 +19,8 @@ waits = receivedFrameOf (newOf 7) 100 .state
 abbrev asked : ArqInactivity
 asked = advanceOf waits 132 .state
 
-abbrev heard : ArqInactivity
-heard = receivedFrameOf asked 140 .state
+abbrev afterFrame : ArqInactivity
+afterFrame = receivedFrameOf asked 140 .state
 
 -- it was sent at block 150
 abbrev told : ArqInactivity
@@ -32,7 +32,7 @@ left n = receivedFrameOf (newOf (stop - n - 1)) 100 .state
 
 pub settled : (advanceOf waits 131 .outcome ≡ gives None)
     × (advanceOf waits 132 .outcome ≡ gives RequestUnsolicitedStatus)
-    × (advanceOf heard 900 .outcome ≡ gives None)
+    × (advanceOf afterFrame 900 .outcome ≡ gives None)
     × (told .state ≡ FinalWait 150)
     × (advanceOf told 181 .outcome ≡ gives None)
     × (advanceOf told 182 .outcome ≡ gives Terminate)
@@ -45,7 +45,7 @@ pub settled : (advanceOf waits 131 .outcome ≡ gives None)
     × (unsolicitedOf waits (record { 0 = 7 }) 150 Failed ≡ acts (turn None (clocked waits 150)))
     × (solicitedOf (newOf 7) (record { 0 = 7 }) 150 Failed ≡ acts (turn None (clocked (newOf 7) 150)))
     × (solicitedOf asked (record { 0 = 7 }) 150 Sent .state .«unsolicited_pending» ≡ true)
-    × (unsolicitedOf heard (record { 0 = 7 }) 150 Sent .state .state ≡ Waiting 150)
+    × (unsolicitedOf afterFrame (record { 0 = 7 }) 150 Sent .state .state ≡ Waiting 150)
     × (resetOf asked ≡ done (renewed asked))
     × (unsolicitedOf told (record { 0 = 7 }) 149 Failed .outcome ≡ refuses 17)
     × (observeOf told 149 .outcome ≡ refuses 17)
@@ -66,7 +66,7 @@ pub passed : (newOf 7 ≡ record { state = Idle; «last_block» = 0; «unsolicit
     × (waits ≡ record { state = Waiting 100; «last_block» = 100; «unsolicited_pending» = false; transaction = record { 0 = 7 }; «next_token» = 8 })
     × (observeOf waits 120 .state ≡ record { state = Waiting 100; «last_block» = 120; «unsolicited_pending» = false; transaction = record { 0 = 7 }; «next_token» = 8 })
     × (asked ≡ record { state = SendingUnsolicited; «last_block» = 132; «unsolicited_pending» = true; transaction = record { 0 = 7 }; «next_token» = 8 })
-    × (heard ≡ record { state = Waiting 140; «last_block» = 140; «unsolicited_pending» = true; transaction = record { 0 = 7 }; «next_token» = 8 })
+    × (afterFrame ≡ record { state = Waiting 140; «last_block» = 140; «unsolicited_pending» = true; transaction = record { 0 = 7 }; «next_token» = 8 })
     × (told ≡ record { state = FinalWait 150; «last_block» = 150; «unsolicited_pending» = false; transaction = record { 0 = 7 }; «next_token» = 8 })
     × (advanceOf told 182 .state ≡ record { state = Idle; «last_block» = 182; «unsolicited_pending» = false; transaction = record { 0 = 8 }; «next_token» = 9 })
     × (resetOf asked .state ≡ record { state = Idle; «last_block» = 132; «unsolicited_pending» = false; transaction = record { 0 = 8 }; «next_token» = 9 })
@@ -97,33 +97,33 @@ abbrev anew : ℕ → ArqInactivity
 anew b = record { state = Idle; «last_block» = b; «unsolicited_pending» = false; transaction = record { 0 = 8 }; «next_token» = 9 }
 
 pub visited : (receivedFrameOf waits 120 ≡ done (at 120 120))
-    × (receivedFrameOf heard 145 ≡ done (pending 145 145))
+    × (receivedFrameOf afterFrame 145 ≡ done (pending 145 145))
     × (receivedFrameOf told 160 ≡ done (at 160 160))
     × (receivedFrameOf told 150 ≡ done (at 150 150))
     × (observeOf asked 140 ≡ done (sending 140))
-    × (observeOf heard 150 ≡ done (pending 150 140))
+    × (observeOf afterFrame 150 ≡ done (pending 150 140))
     × (observeOf told 160 ≡ done (final 160))
     × (advanceOf waits 131 ≡ acts (turn None (at 131 100)))
     × (advanceOf waits 132 ≡ acts (turn RequestUnsolicitedStatus (sending 132)))
     × (advanceOf asked 900 ≡ acts (turn None (sending 900)))
-    × (advanceOf heard 900 ≡ acts (turn None (pending 900 140)))
+    × (advanceOf afterFrame 900 ≡ acts (turn None (pending 900 140)))
     × (advanceOf told 181 ≡ acts (turn None (final 181)))
     × (advanceOf told 182 ≡ acts (turn Terminate (anew 182)))
     × (unsolicitedOf asked (record { 0 = 7 }) 150 Sent ≡ acts (turn None (final 150)))
-    × (unsolicitedOf heard (record { 0 = 7 }) 150 Sent ≡ acts (turn None (at 150 150)))
-    × (unsolicitedOf heard (record { 0 = 7 }) 150 Failed ≡ acts (turn Terminate (anew 150)))
+    × (unsolicitedOf afterFrame (record { 0 = 7 }) 150 Sent ≡ acts (turn None (at 150 150)))
+    × (unsolicitedOf afterFrame (record { 0 = 7 }) 150 Failed ≡ acts (turn Terminate (anew 150)))
     × (unsolicitedOf told (record { 0 = 7 }) 160 Sent ≡ acts (turn None (final 160)))
     × (unsolicitedOf told (record { 0 = 7 }) 160 Failed ≡ acts (turn None (final 160)))
     × (solicitedOf waits (record { 0 = 7 }) 120 Sent ≡ acts (turn None (at 120 120)))
     × (solicitedOf waits (record { 0 = 7 }) 120 Failed ≡ acts (turn Terminate (anew 120)))
     × (solicitedOf asked (record { 0 = 7 }) 150 Sent ≡ acts (turn None (pending 150 150)))
-    × (solicitedOf heard (record { 0 = 7 }) 150 Sent ≡ acts (turn None (pending 150 150)))
-    × (solicitedOf heard (record { 0 = 7 }) 150 Failed ≡ acts (turn Terminate (anew 150)))
+    × (solicitedOf afterFrame (record { 0 = 7 }) 150 Sent ≡ acts (turn None (pending 150 150)))
+    × (solicitedOf afterFrame (record { 0 = 7 }) 150 Failed ≡ acts (turn Terminate (anew 150)))
     × (solicitedOf told (record { 0 = 7 }) 160 Sent ≡ acts (turn None (at 160 160)))
     × (solicitedOf told (record { 0 = 7 }) 160 Failed ≡ acts (turn Terminate (anew 160)))
     × (solicitedOf told (record { 0 = 6 }) 1 Failed ≡ acts (turn None told))
     × (resetOf waits ≡ done (anew 100))
-    × (resetOf heard ≡ done (anew 140))
+    × (resetOf afterFrame ≡ done (anew 140))
     × (resetOf told ≡ done (anew 150))
 unfolding resetOf observeOf receivedFrameOf advanceOf unsolicitedOf solicitedOf
 visited = (refl, refl, refl, refl, refl, refl, refl, refl, refl, refl, refl, refl, refl, refl, refl, refl, refl, refl, refl, refl, refl, refl, refl, refl, refl, refl, refl, refl, refl)

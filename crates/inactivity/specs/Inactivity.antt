@@ -99,9 +99,13 @@ observeOf s b = onward s (ticked s b) done
 unfoldable pub receivedFrameOf : ArqInactivity → ℕ → After Unit ArqInactivity
 receivedFrameOf s b = onward s (ticked s b) (λ t. done (waiting t))
 
--- IS-136.1-A 5.4.2.2: 32 blocks have passed since a block
+-- INACTIVITY_BLOCKS (IS-136.1-A 5.4.2.2): both intervals
+abbrev pub inactivityBlocks : ℕ
+inactivityBlocks = 32
+
+-- so many blocks have passed since a block
 abbrev pub elapsed : ArqInactivity → ℕ → Bool
-elapsed s since = leb 32 (s .«last_block» - since)
+elapsed s since = leb inactivityBlocks (s .«last_block» - since)
 
 -- what is due at the clock's block, by the state: an unsolicited status, if none is pending; after it the end
 abbrev pub due : State → ArqInactivity → Turn
@@ -161,10 +165,6 @@ unsolicitedOf s t b r = reported s t b (unsolicitedAt r)
 -- `solicited_status_result`: the same
 unfoldable pub solicitedOf : ArqInactivity → TransactionToken → ℕ → StatusResult → After InactivityAction ArqInactivity
 solicitedOf s t b r = reported s t b (solicitedAt r)
-
--- the two in one, for the function that both go through
-abbrev pub resultAt : Bool → StatusResult → ArqInactivity → Turn
-resultAt solicited r s = cond solicited (solicitedAt r s) (unsolicitedAt r s)
 
 -- ---- answers by 01's numbers
 

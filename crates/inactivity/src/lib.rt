@@ -6,8 +6,18 @@ use spach::SpachError;
 use spach::Verdict;
 ghost use mathlib.Core.Path.{_≡_};
 ghost use Prim.Native.Nat.{_≤_};
-ghost use Rattle.inactivity.specs.Inactivity.{Sound, newOf, tokenOf, ownsOf, renewed, inState, waiting, isIdle, sentFrom, turn, acts, elapsed, admitted, resetOf, observeOf, receivedFrameOf, dueOf, advanceOf, unsolicitedAt, unsolicitedOf, solicitedAt, solicitedOf, resultAt, reported, observed, hasReset, acted, admission, clockNumber, refusalOf};
+ghost use Rattle.inactivity.specs.Inactivity.{Sound, newOf, tokenOf, ownsOf, renewed, inState, waiting, isIdle, sentFrom, turn, acts, inactivityBlocks, elapsed, admitted, resetOf, observeOf, receivedFrameOf, dueOf, advanceOf, unsolicitedAt, unsolicitedOf, solicitedAt, solicitedOf, reported, observed, hasReset, acted, admission, clockNumber, refusalOf};
+ghost use Rattle.inactivity.specs.Result.{resultAt};
 ghost use Rattle.spach.specs.Refusal.{refuses};
+
+const INACTIVITY_BLOCKS: u64 = 32;
+
+// The constant, as the definitions name it.
+fn inactivity_blocks() -> u64
+    ensures { λ r. ⌜ r ≡ inactivityBlocks ⌝ }
+{
+    INACTIVITY_BLOCKS
+}
 
 // Tells the transactions of one timer apart: a number of its counter.
 pub struct TransactionToken(pub u64);
@@ -284,7 +294,7 @@ impl ArqInactivity {
         requires { ⌜ «since_block» ≤ self .«last_block» ⌝ }
         ensures { λ r. ⌜ r ≡ elapsed self «since_block» ⌝ }
     {
-        32 <= self.last_block - since_block
+        INACTIVITY_BLOCKS <= self.last_block - since_block
     }
 
     // What is due at the clock's block.

@@ -25,7 +25,7 @@ use Rattle.listing.specs.declared.Session.{Session}
 use Rattle.listing.specs.declared.Shown.{Shown}
 use Rattle.listing.specs.Text.{written, Wrote}
 use Rattle.listing.specs.Line.{deliveryOf, Inside, lineOf, headerLine}
-use Rattle.listing.specs.Session.{openOf, pushWith, pushesOf, framesOf, counted, outOf, stepOf, afterOf, linesOf, Ready, Read, ShowsAll, Chunk, Chunks, startOf, lastLines, listingFrom, listingOf}
+use Rattle.listing.specs.Session.{openOf, pushWith, pushesOf, framesOf, counted, outOf, stepOf, afterOf, linesOf, Ready, Read, ShowsAll, Chunk, Chunks, newSession, lastLines, listingFrom, listingOf}
 use Rattle.listing.proofs.Texts.{written-append, written-none}
 
 -- ---- one push
@@ -147,7 +147,7 @@ lines-append x (p ∷ a) b =
     ap (λ l. lineOf (x .frames + 1) (outOf x p) ++ l) (lines-append (stepOf x p) a b)
     ∙ sym (append-assoc (lineOf (x .frames + 1) (outOf x p)) (linesOf (stepOf x p) a) (linesOf (afterOf (stepOf x p) a) b))
 
-after-append : (x : Session) (a b : List Push) → afterOf x (a ++ b) ≡ afterOf (afterOf x a) b
+pub after-append : (x : Session) (a b : List Push) → afterOf x (a ++ b) ≡ afterOf (afterOf x a) b
 after-append x [] b = refl
 after-append x (p ∷ a) b = after-append (stepOf x p) a b
 
@@ -160,7 +160,7 @@ pushes-append (suc n) m a c h =
     (ap (pushesOf (n + m)) (drop-append-le 14 a c (omega arith)) ∙ pushes-append n m (drop 14 a) c (omega (arith, length-drop 14 a)))
 
 -- whole frames, and what follows them
-frames-append : (a c : List ℕ) → length a % 14 ≡ 0 → framesOf (a ++ c) ≡ framesOf a ++ framesOf c
+pub frames-append : (a c : List ℕ) → length a % 14 ≡ 0 → framesOf (a ++ c) ≡ framesOf a ++ framesOf c
 frames-append a c h =
     let n : length (a ++ c) / 14 ≡ length a / 14 + length c / 14 = omega (arith, length-append a c) in
     ap (λ k. pushesOf k (a ++ c)) n ∙ pushes-append (length a / 14) (length c / 14) a c (omega arith)
@@ -206,13 +206,13 @@ chunks-cut (a ∷ cs) c f = omega (arith, length-append a (inputOf cs c), f .0, 
 
 -- the listing of an input is the header, the lines of chunk after chunk, and the last lines
 pub listing-chunks : (i : List ℕ) (s : ArqReassembler) (cs : List (List ℕ)) (c : List ℕ) → length i ≡ 9 → openOf i ≡ gives s → Full cs
-    → listingOf (i ++ inputOf cs c) ≡ headerLine ++ chunkLines (startOf s) cs c ++ lastLines (chunkAfter (startOf s) cs c) (length c % 14)
+    → listingOf (i ++ inputOf cs c) ≡ headerLine ++ chunkLines (newSession s) cs c ++ lastLines (chunkAfter (newSession s) cs c) (length c % 14)
 unfolding listingOf
 listing-chunks i s cs c e o f =
     let r = inputOf cs c in
     ap₂ listingFrom (ap openOf (take-at i r 9 e) ∙ o) (drop-at i r 9 e)
-    ∙ ap (λ l. headerLine ++ l ++ lastLines (afterOf (startOf s) (framesOf r)) (length r % 14)) (chunks-lines (startOf s) cs c f)
-    ∙ ap₂ (λ (y : Session) (k : ℕ). headerLine ++ chunkLines (startOf s) cs c ++ lastLines y k) (chunks-after (startOf s) cs c f) (chunks-cut cs c f)
+    ∙ ap (λ l. headerLine ++ l ++ lastLines (afterOf (newSession s) (framesOf r)) (length r % 14)) (chunks-lines (newSession s) cs c f)
+    ∙ ap₂ (λ (y : Session) (k : ℕ). headerLine ++ chunkLines (newSession s) cs c ++ lastLines y k) (chunks-after (newSession s) cs c f) (chunks-cut cs c f)
 
 -- ---- what is left to read
 

@@ -11,7 +11,7 @@ use lib.Dec.{ltb}
 use lib.Seq.{sets, length-take-le, take-suc, take-length, drop-cons, drop-length}
 use borrow.Author.Tests.{lt-ltb, le-ltb, ltb-true, ltb-false}
 use Rattle.io.specs.Digits.{digits, glyph, Fewest}
-use Rattle.receiver.proofs.Ways.{by-bool}
+use Rattle.receiver.proofs.PushCases.{by-bool}
 use Rattle.listing.specs.Text.{written, Wrote, decimalIn, decimalOf, hexOf}
 
 -- ---- written

@@ -100,6 +100,11 @@ headerLine =
 abbrev pub identityLine : List ℕ
 identityLine = 105 ∷ 100 ∷ 101 ∷ 110 ∷ 116 ∷ 105 ∷ 116 ∷ 121 ∷ 10 ∷ []
 
+-- the first line, by whether the identity is accepted
+abbrev pub firstLine : Outcome Unit → List ℕ
+firstLine (gives t) = headerLine
+firstLine (refuses n) = identityLine
+
 -- `cut `
 abbrev pub cutWord : List ℕ
 cutWord = 99 ∷ 117 ∷ 116 ∷ 32 ∷ []

@@ -2,7 +2,7 @@
 use mathlib.Core.Path.{_≡_}
 use mathlib.Core.Bool.{Bool}
 use mathlib.Core.List.{List, [], _∷_, _++_}
-use Prim.Native.Nat.{ℕ, zero, suc, _+_, _*_, _/_, _%_, _≤_, _<_, _^_}
+use Prim.Native.Nat.{ℕ, zero, suc, _+_, _-_, _*_, _/_, _%_, _≤_, _<_, _^_}
 use lib.Dec.{eqb, ltb}
 use lib.ListN.{length, take, drop, getD, replicate}
 use Rattle.io.specs.Counts.{Counts}
@@ -101,8 +101,26 @@ pub record Chunks (x : Session) (limit : ℕ) (y : Session) (l k : ℕ) : Type 0
   pub cut : k ≡ length octets % 14
 
 -- before the first frame
-abbrev pub startOf : ArqReassembler → Session
-startOf s = record { receiver = s; frames = 0; messages = 0 }
+abbrev pub newSession : ArqReassembler → Session
+newSession s = record { receiver = s; frames = 0; messages = 0 }
+
+-- chunk after chunk from x on, all that may be read until one is not full: so many octets are left
+pub record Listed (x : Session) (limit l : ℕ) : Type 0 where
+  pub after : Session
+  pub cut : ℕ
+  pub chunks : Chunks x limit after l cut
+
+-- after an accepted identity its frames are read, after another nothing
+abbrev pub Follows : Outcome ArqReassembler → (limit left : ℕ) → Type 0
+Follows (refuses n) limit l = l ≡ limit
+Follows (gives s) limit l = Listed (newSession s) limit l
+
+-- an input of at most `limit` octets: nine of identity, or fewer, and what follows; so many are left (that the octets are the input's is run)
+pub record ReadsAll (limit l : ℕ) : Type 0 where
+  pub first : List ℕ
+  pub nine : length first ≤ 9
+  pub within : length first ≤ limit
+  pub rest : Follows (openOf first) (limit - length first) l
 
 -- the last lines: the cut frame's octets, the deliveries
 unfoldable pub lastLines : Session → ℕ → List ℕ
@@ -113,7 +131,7 @@ abbrev pub listingFrom : Outcome ArqReassembler → List ℕ → List ℕ
 listingFrom (refuses n) xs = identityLine
 listingFrom (gives s) xs =
     let l = framesOf xs in
-    headerLine ++ linesOf (startOf s) l ++ lastLines (afterOf (startOf s) l) (length xs % 14)
+    headerLine ++ linesOf (newSession s) l ++ lastLines (afterOf (newSession s) l) (length xs % 14)
 
 -- the whole listing: nine octets of identity, then the frames
 unfoldable pub listingOf : List ℕ → List ℕ

@@ -1,8 +1,9 @@
 // The listing that `arq-show` prints: a receiver of one identity, frames of 14 octets pushed to it in turn, a line for each.
-pub mod last;
-pub mod line;
+mod first;
+mod last;
+mod line;
 pub mod show;
-pub mod text;
+mod text;
 
 use rach::MobileIdentity;
 use receiver::ArqReassembler;
@@ -12,7 +13,7 @@ use spach::IdentityAnswer;
 ghost use mathlib.Core.Path.{_≡_};
 ghost use Prim.Native.Nat.{_+_, _*_, _/_, _≤_, _<_};
 ghost use lib.ListN.{length};
-ghost use Rattle.spach.specs.Refusal.{answered};
+ghost use Rattle.spach.specs.Answered.{answered};
 ghost use Rattle.receiver.specs.Receiver.{blankReceiver, madeAnswer};
 ghost use Rattle.listing.specs.Text.{Wrote};
 ghost use Rattle.listing.specs.Line.{lineOf};

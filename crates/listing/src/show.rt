@@ -1,14 +1,18 @@
 // Lists what stands on standard input, a chunk at a time.
 use super::Session;
+use super::first::put_first;
 use super::last::put_last;
 use libc::STDIN_FILENO;
 use libc::STDOUT_FILENO;
 use receiver::ArqReassembler;
 use spach::Verdict;
-ghost use Prim.Native.Nat.{_≤_};
+ghost use mathlib.Core.Path.{_≡_};
+ghost use mathlib.Core.Bool.{true, false};
+ghost use Prim.Native.Nat.{_≤_, _<_};
+ghost use lib.ListN.{length};
 ghost use Rattle.io.specs.Counts.{Counts};
 ghost use Rattle.receiver.specs.Valid.{Valid};
-ghost use Rattle.listing.specs.Session.{startOf, Read, Chunk, Chunks};
+ghost use Rattle.listing.specs.Session.{newSession, Read, Chunk, Chunks, Listed, ReadsAll};
 
 // What a chunk came to: the session, how many octets are left to read, how many of the chunk are a cut frame, whether the
 // input may go on, and whether it could not be read on.
@@ -26,7 +30,7 @@ struct Got {
     pub failed: bool,
 }
 
-fn least(a: u64, b: u64) -> u64
+fn lesser(a: u64, b: u64) -> u64
     ensures { λ r. ⌜ (r ≤ a) × (r ≤ b) ⌝ }
 {
     if a < b { a } else { b }
@@ -40,9 +44,9 @@ fn cannot_read() -> bool {
 
 // Reads until the room is full, `left` octets are read, the input ends or a read fails.
 fn read_some(room: &mut [u8], left: u64) -> Got
-    ensures { λ r. ⌜ Counts (r .count) (now (room .exit)) × (r .count ≤ left) ⌝ }
+    ensures { λ r. ⌜ Counts (r .count) (now (room .exit)) × (r .count ≤ left) × (r .failed ≡ true → r .count < length (now (room .exit))) ⌝ }
 {
-    let want = least(left, room.len() as u64) as usize;
+    let want = lesser(left, room.len() as u64) as usize;
     let n = io::read_full(STDIN_FILENO, &mut room[..want]);
     if n == want {
         return Got {
@@ -86,7 +90,7 @@ fn show_chunk(session: Session, left: u64) -> Turn
 // Chunk after chunk, until one is not full.
 fn show_chunks(receiver: ArqReassembler, limit: u64) -> Turn
     requires { ⌜ Valid receiver ⌝ }
-    ensures { λ r. ⌜ Chunks (startOf receiver) limit (r .session) (r .left) (r .cut) ⌝ }
+    ensures { λ r. ⌜ Chunks (newSession receiver) limit (r .session) (r .left) (r .cut) × (r .more ≡ false) ⌝ }
 {
     let mut t = Turn {
         session: Session {
@@ -109,7 +113,7 @@ fn show_chunks(receiver: ArqReassembler, limit: u64) -> Turn
 // Prints the lines after the header. A listing that could not be read to its end says so in place of its last lines.
 fn show_all(receiver: ArqReassembler, limit: u64) -> u64
     requires { ⌜ Valid receiver ⌝ }
-    ensures { λ r. ⌜ r ≤ limit ⌝ }
+    ensures { λ r. ⌜ (r ≤ limit) × Listed (newSession receiver) limit r ⌝ }
 {
     let t = show_chunks(receiver, limit);
     if t.failed {
@@ -123,9 +127,9 @@ fn show_all(receiver: ArqReassembler, limit: u64) -> u64
     t.left
 }
 
-// Lists an input of at most `limit` octets. Answers how many of them were not read.
+// Lists an input of at most `limit` octets, to its end. Answers how many of them were not read.
 pub fn show(limit: u64) -> u64
-    ensures { λ r. ⌜ r ≤ limit ⌝ }
+    ensures { λ r. ⌜ (r ≤ limit) × ReadsAll limit r ⌝ }
 {
     let mut octets = [0u8; 9];
     let got = read_some(&mut octets, limit);
@@ -137,11 +141,12 @@ pub fn show(limit: u64) -> u64
     }
     let made = super::open(&octets[..n]);
     let verdict = made.verdict;
+    let mut text = [0u8; 27];
+    let end = put_first(&mut text, verdict);
+    io::write_all(STDOUT_FILENO, &text[..end]);
     if let Verdict::Refused(_) = verdict {
-        io::write_all(STDOUT_FILENO, b"identity\n");
         return left;
     }
-    io::write_all(STDOUT_FILENO, b"frame answer echo map text\n");
     let receiver = made.receiver;
     show_all(receiver, left)
 }

@@ -10,7 +10,8 @@ use Rattle.rach.specs.declared.MobileIdentity.{MobileIdentity}
 use Rattle.spach.specs.declared.SpachError.{SpachError}
 use Rattle.spach.specs.declared.Verdict.{Verdict}
 use Rattle.spach.specs.declared.Verdict.the-variants as verdicts
-use Rattle.spach.specs.Refusal.{Outcome, gives, refuses, numberOf, andThen, verdictOf, answered, After, onward}
+use Rattle.spach.specs.Refusal.{Outcome, gives, refuses, numberOf, andThen, verdictOf, After, onward}
+use Rattle.spach.specs.Answered.{answered}
 use Rattle.spach.proofs.Outcomes.{answered-gives, answered-refuses}
 use Rattle.arq.specs.declared.ArqFrame.{ArqFrame}
 use Rattle.arq.specs.Frame.{blankFrame}
@@ -35,8 +36,10 @@ use Rattle.procedure.specs.declared.ReceiveEvent.{ReceiveEvent}
 use Rattle.procedure.specs.declared.SendEvent.{SendEvent}
 use Rattle.procedure.specs.declared.SendEvent.the-variants as sends
 use Rattle.procedure.specs.declared.ArqProcedure.{ArqProcedure}
-use Rattle.procedure.specs.Procedure.{Sound, Out, newOf, blankProcedure, withTimer, admits, says, heard, beside, byAnswer, pushes, decoded, letThrough, thenHears, receiveOf, sentAt, statusSentOf}
-use Rattle.procedure.proofs.Kept.{sound-new}
+use Rattle.procedure.specs.Procedure.{Sound, Out, newOf, blankProcedure, withTimer, admits, says, beside, receiveOf, sentAt, statusSentOf}
+use Rattle.procedure.specs.Parts.{byReception, byAnswer, pushes, decoded, letThrough, thenHears}
+use Rattle.procedure.proofs.Invariant.{sound-new}
+use Rattle.procedure.proofs.Parts.{receive-parts}
 
 -- ---- the constructor
 
@@ -93,20 +96,18 @@ module _ (p : ArqProcedure) (b : List ℕ) (f : ArqFrame) where
     pub push-refused : {x : SpachError} → o .answer ≡ pushAnswers.Refused x → y ≡ record { outcome = refuses (numberOf x); state = record { receiver = o .receiver; inactivity = p .inactivity } } → beside y c ≡ pushes p b f
     push-refused q h = ap (λ a. beside a c) h ∙ ap (λ z. byAnswer begin (R.pushAnswer z) (record { receiver = o .receiver; inactivity = p .inactivity }) c) (sym q) ∙ ap over e
 
-    pub push-heard : {x : Reception} {z : Bool} → o .answer ≡ pushAnswers.Reception x → z ≡ byKind (f .kind) true false → y ≡ heard z x (record { receiver = o .receiver; inactivity = p .inactivity }) → beside y c ≡ pushes p b f
+    pub push-heard : {x : Reception} {z : Bool} → o .answer ≡ pushAnswers.Reception x → z ≡ byKind (f .kind) true false → y ≡ byReception z x (record { receiver = o .receiver; inactivity = p .inactivity }) → beside y c ≡ pushes p b f
     push-heard {x} q k h =
-        ap (λ a. beside a c) (h ∙ ap (λ z. heard z x (record { receiver = o .receiver; inactivity = p .inactivity })) k)
+        ap (λ a. beside a c) (h ∙ ap (λ z. byReception z x (record { receiver = o .receiver; inactivity = p .inactivity })) k)
         ∙ ap (λ z. byAnswer begin (R.pushAnswer z) (record { receiver = o .receiver; inactivity = p .inactivity }) c) (sym q) ∙ ap over e
 
 -- the refusals before it
 module _ (p : ArqProcedure) (block : ℕ) (xs b : List ℕ) {a : Admission} (e : admission a ≡ letThrough (p .inactivity) block (length b)) where
   pub receive-refused : {x : ProcedureError} {y : After ReceiveEvent ArqProcedure} → a ≡ Refused x → y ≡ record { outcome = refuses (refusalOf x); state = p } → beside y b ≡ receiveOf p block xs b
-  unfolding receiveOf
-  receive-refused q h = ap (λ z. beside z b) h ∙ ap (thenHears p xs b) (sym (ap admission q) ∙ e)
+  receive-refused q h = ap (λ z. beside z b) h ∙ ap (thenHears p xs b) (sym (ap admission q) ∙ e) ∙ sym (receive-parts p block xs b)
 
   pub receive-goes : {t : ArqInactivity} {q : ArqProcedure} {y : Out} → a ≡ Admitted t → q ≡ withTimer p t → y ≡ decoded q b (decodeOf xs) → y ≡ receiveOf p block xs b
-  unfolding receiveOf
-  receive-goes z w h = h ∙ ap (λ x. decoded x b (decodeOf xs)) w ∙ ap (thenHears p xs b) (sym (ap admission z) ∙ e)
+  receive-goes z w h = h ∙ ap (λ x. decoded x b (decodeOf xs)) w ∙ ap (thenHears p xs b) (sym (ap admission z) ∙ e) ∙ sym (receive-parts p block xs b)
 
 -- ---- status_sent
 

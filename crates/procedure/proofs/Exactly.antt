@@ -24,7 +24,7 @@ use Rattle.receiver.specs.declared.Request.the-variants as requests
 use Rattle.receiver.specs.declared.Reception.{Reception}
 use Rattle.receiver.specs.declared.Reception.the-variants as receptions
 use Rattle.receiver.specs.Receiver as R
-use Rattle.receiver.specs.Receiver.{pushFrame, statusOf, completeOf}
+use Rattle.receiver.specs.Receiver.{pushFrame, completeOf}
 use Rattle.receiver.proofs.Laws.{made-exactly, made-2-exactly}
 use Rattle.inactivity.specs.declared.ArqInactivity.{ArqInactivity}
 use Rattle.inactivity.specs.declared.State.the-variants.{Idle, Waiting}
@@ -46,7 +46,9 @@ use Rattle.procedure.specs.declared.TimerEvent.the-variants.{None, SendS
 use Rattle.procedure.specs.declared.SendEvent.{SendEvent}
 use Rattle.procedure.specs.declared.SendEvent.the-variants as sends
 use Rattle.procedure.specs.declared.ArqProcedure.{ArqProcedure}
-use Rattle.procedure.specs.Procedure.{newOf, Out, withTimer, admits, says, resetOf, timed, polled, endsUnpolled, accepted, byAnswer, decoded, receiveOf, follows, dueAt, advanceOf, reported, sentAt, statusSentOf}
+use Rattle.procedure.specs.Procedure.{newOf, Out, withTimer, admits, says, resetOf, activeOf, polled, receiveOf, follows, dueAt, advanceOf, afterSent, sentAt, statusSentOf}
+use Rattle.procedure.specs.Parts.{timed, endsUnpolled, accepted, byAnswer, decoded}
+use Rattle.procedure.proofs.Parts.{receive-parts}
 
 -- a receiver and a timer
 abbrev made : ArqReassembler → ArqInactivity → ArqProcedure
@@ -113,21 +115,17 @@ module _ (p : ArqProcedure) (block : ℕ) (xs b : List ℕ) where
   stops n q = record { outcome = refuses n; procedure = q; buffer = b }
 
   pub receive-18 : fewerThan 4 (timer .«next_token») ≡ true → receiveOf p block xs b ≡ stops 18 p
-  unfolding receiveOf
-  receive-18 e = rw e
+  receive-18 e = rw (receive-parts p block xs b, e)
 
   pub receive-16 : fewerThan 4 (timer .«next_token») ≡ false → length b < 255 → receiveOf p block xs b ≡ stops 16 p
-  unfolding receiveOf
-  receive-16 e l = rw (e, lt-ltb (length b) 255 l)
+  receive-16 e l = rw (receive-parts p block xs b, e, lt-ltb (length b) 255 l)
 
   pub receive-17 : fewerThan 4 (timer .«next_token») ≡ false → 255 ≤ length b → block < timer .«last_block» → receiveOf p block xs b ≡ stops 17 p
-  unfolding receiveOf
-  receive-17 e l k = rw (e, le-ltb (length b) 255 l, lt-ltb block (timer .«last_block») k)
+  receive-17 e l k = rw (receive-parts p block xs b, e, le-ltb (length b) 255 l, lt-ltb block (timer .«last_block») k)
 
   module _ (w : Through timer block (length b)) where
     goes : receiveOf p block xs b ≡ decoded (withTimer p (clocked timer block)) b (decodeOf xs)
-    unfolding receiveOf
-    goes = rw (w .tokens, le-ltb (length b) 255 (w .enough), le-ltb block (timer .«last_block») (w .later))
+    goes = rw (receive-parts p block xs b, w .tokens, le-ltb (length b) 255 (w .enough), le-ltb block (timer .«last_block») (w .later))
 
     -- decode's refusals, with the clock moved
     pub receive-refuses : (n : ℕ) → decodeOf xs ≡ refuses n → receiveOf p block xs b ≡ stops n moved
@@ -229,7 +227,12 @@ module _ (p : ArqProcedure) (b : ℕ) where
       -- by contention, with the echo and the map that are held, under the present token
       pub advance-asks : I.advanceOf before b ≡ answers actions.RequestUnsolicitedStatus u
           → advanceOf p b
-          ≡ tells (SendStatus (record { request = record { status = statusOf (p .receiver); «response_mode» = Contention }; token = u .transaction; kind = Unsolicited; «complete_at_poll» = false }))
+          ≡ tells (SendStatus (record {
+            request = record { status = record { «partial_echo» = p .receiver .transaction .«partial_echo»; «received_frames» = p .receiver .«received_frames» }; «response_mode» = Contention };
+            token = u .transaction;
+            kind = Unsolicited;
+            «complete_at_poll» = false;
+          }))
           (made (p .receiver) u)
       advance-asks e = follow actions.RequestUnsolicitedStatus e
 
@@ -272,14 +275,14 @@ module _ (p : ArqProcedure) (b : ℕ) (x : StatusTransmission) (r : StatusResult
 
       -- the last one ends it too
       abbrev sent : Bool → After SendEvent ArqProcedure
-      sent last = cond last (says sends.Complete (over (p .receiver) held b)) (says sends.Pending (withTimer p (reported (x .kind) (clocked held b))))
+      sent last = cond last (says sends.Complete (over (p .receiver) held b)) (says sends.Pending (withTimer p (afterSent (x .kind) (clocked held b))))
 
       pub sent-complete : r ≡ results.Sent → x .«complete_at_poll» ≡ true → statusSentOf p b x r ≡ tells sends.Complete (over (p .receiver) held b)
       sent-complete e c = by-result e ∙ ap sent c
 
       -- any other is told to the timer, by its kind
-      pending-by : {k : StatusKind} → r ≡ results.Sent → x .«complete_at_poll» ≡ false → x .kind ≡ k → statusSentOf p b x r ≡ tells sends.Pending (made (p .receiver) (reported k (clocked held b)))
-      pending-by e c k = by-result e ∙ ap sent c ∙ ap (λ (z : StatusKind). tells sends.Pending (made (p .receiver) (reported z (clocked held b)))) k
+      pending-by : {k : StatusKind} → r ≡ results.Sent → x .«complete_at_poll» ≡ false → x .kind ≡ k → statusSentOf p b x r ≡ tells sends.Pending (made (p .receiver) (afterSent k (clocked held b)))
+      pending-by e c k = by-result e ∙ ap sent c ∙ ap (λ (z : StatusKind). tells sends.Pending (made (p .receiver) (afterSent z (clocked held b)))) k
 
       timer-solicited : I.solicitedOf held (x .token) b results.Sent ≡ acts (I.solicitedAt results.Sent (clocked held b))
       unfolding I.solicitedOf
@@ -296,6 +299,12 @@ module _ (p : ArqProcedure) (b : ℕ) (x : StatusTransmission) (r : StatusResult
       pub sent-unsolicited : r ≡ results.Sent → x .«complete_at_poll» ≡ false → x .kind ≡ Unsolicited
           → statusSentOf p b x r ≡ tells sends.Pending (made (p .receiver) (I.unsolicitedOf held (x .token) b results.Sent .state))
       sent-unsolicited e c k = pending-by e c k ∙ ap (λ (o : After InactivityAction ArqInactivity). tells sends.Pending (made (p .receiver) (o .state))) (sym timer-unsolicited)
+
+-- ---- active
+
+-- exactly while a transaction is held, whatever the timer's state
+pub active-exactly : (p : ArqProcedure) → activeOf p ≡ p .receiver .transaction .held
+active-exactly p = refl
 
 -- ---- reset
 

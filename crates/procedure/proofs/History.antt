@@ -34,10 +34,11 @@ use Rattle.procedure.specs.declared.TimerEvent.the-variants.{None, SendS
 use Rattle.procedure.specs.declared.SendEvent.{SendEvent}
 use Rattle.procedure.specs.declared.SendEvent.the-variants as sends
 use Rattle.procedure.specs.declared.ArqProcedure.{ArqProcedure}
-use Rattle.procedure.specs.Procedure.{Sound, withTimer, ended, activeOf, timed, endsUnpolled, says, accepted, dueAt, advanceOf, reported, statusSentOf}
+use Rattle.procedure.specs.Procedure.{Sound, withTimer, ended, activeOf, says, dueAt, advanceOf, afterSent, statusSentOf}
+use Rattle.procedure.specs.Parts.{timed, endsUnpolled, accepted}
 use Rattle.procedure.specs.History.{Call, receive, advance, statusSent, reset, after, runs, Each, AcceptsFrame, Taken, AcceptsResult, AcceptsUnsolicited, Resets, EndsTransaction, present, Pending, NoSecond, Silent, EndsAt32, ForeignForEver}
-use Rattle.procedure.proofs.Kept.{sound-new, sound-receive, sound-advance, sound-status-sent, sound-reset}
-use Rattle.procedure.proofs.Ways.{Clocked, reset-ways, due-ways, advance-ways, sent-ways, receive-ways}
+use Rattle.procedure.proofs.Invariant.{sound-new, sound-receive, sound-advance, sound-status-sent, sound-reset}
+use Rattle.procedure.proofs.CallCases.{Clocked, reset-ways, due-ways, advance-ways, sent-ways, receive-ways}
 use Rattle.procedure.proofs.Steps.{tok, pends, Turnout, renews, keeps, newer, owned, at, turnout}
 
 -- ---- over a list
@@ -296,17 +297,17 @@ reported-sent : (p : ArqProcedure) (d : ℕ) (x : StatusTransmission) (r : Statu
 reported-sent p d x r s g u =
     sent-ways (λ a. a .outcome ≡ gives sends.Pending → Final (x .token) d (a .state)) p d x r (λ o e. absurd (let z : _≡_ {A = ℕ} 0 1 = cc in omega arith))
     (λ n e. absurd (let z : _≡_ {A = ℕ} 0 1 = cc in omega arith)) (λ q o c e z f. absurd (ended-not z f))
-    (λ q o c e. at (λ z. Final (x .token) d (withTimer z (reported (x .kind) (z .inactivity)))) c (goes (owned (p .inactivity) (x .token) o) g))
+    (λ q o c e. at (λ z. Final (x .token) d (withTimer z (afterSent (x .kind) (z .inactivity)))) c (goes (owned (p .inactivity) (x .token) o) g))
   where
     ended-not : {e : SendEvent} → (e ≡ sends.Complete) ⊎ (e ≡ sends.Failed) → gives e ≡ gives sends.Pending → ⊥
     ended-not (inl z) f = let w : _≡_ {A = ℕ} 0 1 = cc in omega arith
     ended-not (inr z) f = let w : _≡_ {A = ℕ} 0 1 = cc in omega arith
 
-    goes : x .token ≡ present p → Sending (x .token) p → let q = withTimer p (clocked (p .inactivity) d) in Final (x .token) d (withTimer q (reported (x .kind) (q .inactivity)))
+    goes : x .token ≡ present p → Sending (x .token) p → let q = withTimer p (clocked (p .inactivity) d) in Final (x .token) d (withTimer q (afterSent (x .kind) (q .inactivity)))
     goes k (gone l) = absurd (let z = ap (λ (j : TransactionToken). j .0) k in omega arith)
     goes k (still h) = rw u (still (sent h (subst (λ (z : State). I.PendingFits z (pends (p .inactivity))) (h .state) (s .inactivity .pending))))
       where
-        sent : In (x .token) SendingUnsolicited p → pends (p .inactivity) ≡ true → let q = withTimer p (clocked (p .inactivity) d) in In (x .token) (FinalWait d) (withTimer q (reported Unsolicited (q .inactivity)))
+        sent : In (x .token) SendingUnsolicited p → pends (p .inactivity) ≡ true → let q = withTimer p (clocked (p .inactivity) d) in In (x .token) (FinalWait d) (withTimer q (afterSent Unsolicited (q .inactivity)))
         sent i y = rw y (record { token = i .token; state = ap (λ z. I.sentFrom z d) (i .state); incomplete = i .incomplete })
 
 -- an advance in the final wait

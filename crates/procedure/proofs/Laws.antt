@@ -27,10 +27,12 @@ use Rattle.procedure.specs.declared.Transmission.the-variants as transmi
 use Rattle.procedure.specs.declared.ReceiveEvent.the-variants as receives
 use Rattle.procedure.specs.declared.TimerEvent.the-variants.{SendStatus, Terminated}
 use Rattle.procedure.specs.declared.ArqProcedure.{ArqProcedure}
-use Rattle.procedure.specs.Procedure.{Sound, withTimer, activeOf, timed, endsUnpolled, accepted, refusal, letThrough, thenHears, receiveOf, dueAt, advanceOf}
+use Rattle.procedure.specs.Procedure.{Sound, withTimer, activeOf, refusal, receiveOf, dueAt, advanceOf}
+use Rattle.procedure.specs.Parts.{timed, endsUnpolled, accepted, letThrough, thenHears}
 use Rattle.procedure.specs.History.{present}
-use Rattle.procedure.proofs.Ways.{due-ways, advance-ways, receive-passes, receive-ways}
+use Rattle.procedure.proofs.CallCases.{due-ways, advance-ways, receive-passes, receive-ways}
 use Rattle.procedure.proofs.Steps.{at}
+use Rattle.procedure.proofs.Parts.{receive-parts}
 
 sent-same : {x t : StatusTransmission} → gives (SendStatus x) ≡ gives (SendStatus t) → x ≡ t
 sent-same e = cc
@@ -77,8 +79,7 @@ begin-takes-two p block xs b f m x d k =
 
 -- a receive that 18, 16 or 17 refuses leaves the procedure
 pub receive-stops : (p : ArqProcedure) (block : ℕ) (xs b : List ℕ) (n : ℕ) → letThrough (p .inactivity) block (length b) ≡ refuses n → receiveOf p block xs b ≡ refusal n p b
-unfolding receiveOf
-receive-stops p block xs b n e = ap (thenHears p xs b) e
+receive-stops p block xs b n e = receive-parts p block xs b ∙ ap (thenHears p xs b) e
 
 -- one that is let through and then refused or Ignored moves the clock, and nothing else: it stays moved, and the wait is not begun anew
 pub receive-moves : (p : ArqProcedure) (block : ℕ) (xs b : List ℕ) {t : ArqInactivity} → letThrough (p .inactivity) block (length b) ≡ gives t

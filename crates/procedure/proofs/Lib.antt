@@ -1,9 +1,11 @@
 pub mod Apart
+pub mod CallCases
 pub mod Calls
 pub mod Exactly
 pub mod History
-pub mod Kept
+pub mod Invariant
 pub mod Laws
+pub mod Parts
+pub mod Readings
 pub mod Samples
 pub mod Steps
-pub mod Ways

@@ -40,7 +40,8 @@ use Rattle.procedure.specs.declared.ReceiveEvent.the-variants as receive
 use Rattle.procedure.specs.declared.TimerEvent.the-variants.{None, SendStatus, Terminated}
 use Rattle.procedure.specs.declared.SendEvent.the-variants as sends
 use Rattle.procedure.specs.declared.ArqProcedure.{ArqProcedure}
-use Rattle.procedure.specs.Procedure.{newOf, blankProcedure, says, resetOf, activeOf, accepted, receiveOf, unsolicited, advanceOf, statusSentOf}
+use Rattle.procedure.specs.Procedure.{newOf, blankProcedure, says, resetOf, activeOf, receiveOf, unsolicited, advanceOf, statusSentOf}
+use Rattle.procedure.specs.Parts.{accepted}
 use Rattle.procedure.specs.History.{receive, advance, statusSent, reset, runs, Each, present, Pending, ReportedSent}
 
 -- an order of seven octets needs a Begin and one Continue, one of a single octet needs only the Begin
@@ -70,6 +71,10 @@ seven = 1 ∷ 2 ∷ 3 ∷ 4 ∷ 5 ∷ 6 ∷ 7 ∷ []
 abbrev twenty : List ℕ
 twenty = 1 ∷ 2 ∷ 3 ∷ 4 ∷ 5 ∷ 6 ∷ 7 ∷ 8 ∷ 9 ∷ 10 ∷ 11 ∷ 12 ∷ 13 ∷ 14 ∷ 15 ∷ 16 ∷ 17 ∷ 18 ∷ 19 ∷ 20 ∷ []
 
+-- one of thirty needs three
+abbrev thirty : List ℕ
+thirty = twenty ++ (21 ∷ 22 ∷ 23 ∷ 24 ∷ 25 ∷ 26 ∷ 27 ∷ 28 ∷ 29 ∷ 30 ∷ [])
+
 abbrev room : List ℕ
 room = replicate 255 0
 
@@ -98,11 +103,11 @@ abbrev fresh : ℕ → ArqProcedure
 fresh n = record { receiver = R.fresh identity; inactivity = I.newOf n }
 
 -- the Begin at block 100; the status asked for at 132; sent at 150
-abbrev begun : ArqProcedure
-begun = runs (fresh 7) (receive 100 (frame seven 0) room ∷ [])
+abbrev afterBegin : ArqProcedure
+afterBegin = runs (fresh 7) (receive 100 (frame seven 0) room ∷ [])
 
 abbrev asked : ArqProcedure
-asked = runs begun (advance 132 ∷ [])
+asked = runs afterBegin (advance 132 ∷ [])
 
 abbrev told : ArqProcedure
 told = runs asked (statusSent 150 (unsolicited asked) results.Sent ∷ [])
@@ -116,7 +121,7 @@ back = runs longer (advance 132 ∷ receive 140 (frame twenty 1) room ∷ [])
 
 -- complete by a polled Continue: it waits for its status
 abbrev whole : ArqProcedure
-whole = runs begun (receive 101 (polled seven 1) room ∷ [])
+whole = runs afterBegin (receive 101 (polled seven 1) room ∷ [])
 
 -- the Begin of an order to another
 abbrev foreign : List ℕ
@@ -124,9 +129,9 @@ foreign = octetsIn (encodeOf (cutFrame header (Tmsi20 2) seven 0))
 
 -- by the timer: 31 and 32 blocks, the second wait, what ends the transaction, and its token numbers
 pub settled : (newOf identity 7 ≡ gives (fresh 7))
-    × (present begun .0 ≡ 8)
-    × (advanceOf begun 131 .outcome ≡ gives None)
-    × (advanceOf begun 132 .outcome ≡ gives (SendStatus (unsolicited asked)))
+    × (present afterBegin .0 ≡ 8)
+    × (advanceOf afterBegin 131 .outcome ≡ gives None)
+    × (advanceOf afterBegin 132 .outcome ≡ gives (SendStatus (unsolicited asked)))
     × (unsolicited asked .request .status .«partial_echo» ≡ 5)
     × (unsolicited asked .request .«response_mode» ≡ Contention)
     × (unsolicited asked .token .0 ≡ 8)
@@ -140,30 +145,30 @@ pub settled : (newOf identity 7 ≡ gives (fresh 7))
     × (advanceOf back 900 .outcome ≡ gives None)
     × (advanceOf (runs back (statusSent 150 (unsolicited back) results.Sent ∷ [])) 181 .outcome ≡ gives None)
     × (advanceOf (runs back (statusSent 150 (unsolicited back) results.Sent ∷ [])) 182 .outcome ≡ gives (SendStatus (unsolicited back)))
-    × (activeOf (runs begun (statusSent 102 (status 8 0 false) results.Failed ∷ [])) ≡ false)
-    × (present (runs begun (statusSent 102 (status 8 0 false) results.Failed ∷ [])) .0 ≡ 9)
-    × (activeOf (runs begun (reset ∷ [])) ≡ false)
-    × (present (runs begun (reset ∷ [])) .0 ≡ 9)
+    × (activeOf (runs afterBegin (statusSent 102 (status 8 0 false) results.Failed ∷ [])) ≡ false)
+    × (present (runs afterBegin (statusSent 102 (status 8 0 false) results.Failed ∷ [])) .0 ≡ 9)
+    × (activeOf (runs afterBegin (reset ∷ [])) ≡ false)
+    × (present (runs afterBegin (reset ∷ [])) .0 ≡ 9)
 unfolding newOf R.newOf runs receiveOf accepted advanceOf statusSentOf resetOf pushFrame pushContinue finish assembled gathered slotAt putSlot same ones onesIn decodeOf headerAAt addressAt bitsOf bits value octets field upTo layout anySet encodeOf beginFrame continueFrame packed encodable inRange
 settled = (refl, refl, refl, refl, refl, refl, refl, refl, refl, refl, refl, refl, refl, refl, refl, refl, refl, refl, refl, refl, refl)
 
 -- by the frames: messages, polls, refusals with the clock moved, the last four tokens
-pub received : (receiveOf begun 101 (frame seven 1) room .buffer ≡ seven ++ replicate 248 0)
-    × (present (runs begun (receive 101 (frame seven 1) room ∷ [])) .0 ≡ 9)
-    × (activeOf (runs begun (receive 101 (frame seven 1) room ∷ [])) ≡ false)
+pub received : (receiveOf afterBegin 101 (frame seven 1) room .buffer ≡ seven ++ replicate 248 0)
+    × (present (runs afterBegin (receive 101 (frame seven 1) room ∷ [])) .0 ≡ 9)
+    × (activeOf (runs afterBegin (receive 101 (frame seven 1) room ∷ [])) ≡ false)
     × (present (runs (fresh 7) (receive 100 (frame (65 ∷ []) 0) room ∷ [])) .0 ≡ 9)
     × (receiveOf (fresh 7) 100 (polled seven 0) room .outcome ≡ gives (receives.Accepted deliveries.Nothing (transmissions.Status (status 8 0 false))))
     × (receiveOf longer 101 (polled twenty 1) room .outcome ≡ gives (receives.Accepted deliveries.Nothing (transmissions.Status (status 8 1 false))))
-    × (statusIn (receiveOf begun 101 (polled seven 1) room .outcome) ≡ transmissions.Status (status 8 1 true))
+    × (statusIn (receiveOf afterBegin 101 (polled seven 1) room .outcome) ≡ transmissions.Status (status 8 1 true))
     × (advanceOf whole 900 .outcome ≡ gives None)
     × (activeOf whole ≡ true)
     × (statusSentOf whole 102 (status 8 1 true) results.Sent .outcome ≡ gives sends.Complete)
     × (activeOf (runs whole (statusSent 102 (status 8 1 true) results.Sent ∷ [])) ≡ false)
     × (present (runs whole (statusSent 102 (status 8 1 true) results.Sent ∷ [])) .0 ≡ 9)
-    × (receiveOf begun 101 (1 ∷ []) room .outcome ≡ refuses 1)
-    × (receiveOf begun 101 (1 ∷ []) room .procedure .inactivity .«last_block» ≡ 101)
-    × (receiveOf begun 99 (1 ∷ []) [] .outcome ≡ refuses 16)
-    × (receiveOf begun 99 (1 ∷ []) room .outcome ≡ refuses 17)
+    × (receiveOf afterBegin 101 (1 ∷ []) room .outcome ≡ refuses 1)
+    × (receiveOf afterBegin 101 (1 ∷ []) room .procedure .inactivity .«last_block» ≡ 101)
+    × (receiveOf afterBegin 99 (1 ∷ []) [] .outcome ≡ refuses 16)
+    × (receiveOf afterBegin 99 (1 ∷ []) room .outcome ≡ refuses 17)
     × (present (runs (fresh (stop - 5)) (receive 100 (frame (65 ∷ []) 0) room ∷ [])) .0 ≡ stop - 3)
     × (present (runs (fresh (stop - 6)) (receive 100 (frame seven 0) room ∷ advance 132 ∷ statusSent 150 (unsolicited (runs (fresh (stop - 6)) (receive 100 (frame seven 0) room ∷ []))) results.Sent ∷ advance 182 ∷ [])) .0 ≡ stop - 3)
     × (receiveOf (fresh (stop - 4)) 100 (frame (65 ∷ []) 0) [] .outcome ≡ refuses 18)
@@ -176,15 +181,15 @@ received = (refl, refl, refl, refl, refl, refl, refl, refl, refl, refl, refl, re
 pub waited : (whole .inactivity .state ≡ Waiting 100)
     × (runs (fresh 7) (receive 100 (polled (65 ∷ []) 0) room ∷ []) .inactivity .state ≡ Idle)
     × (advanceOf whole 900 .state .inactivity .«last_block» ≡ 900)
-    × (receiveOf begun 120 foreign room .outcome ≡ gives receives.Ignored)
-    × (receiveOf begun 120 foreign room .procedure .inactivity ≡ I.clocked (begun .inactivity) 120)
-    × (receiveOf begun 120 (frame twenty 2) room .outcome ≡ refuses 12)
-    × (receiveOf begun 120 (frame twenty 2) room .procedure .inactivity ≡ I.clocked (begun .inactivity) 120)
-    × (receiveOf begun 120 (1 ∷ []) room .procedure .inactivity ≡ I.clocked (begun .inactivity) 120)
-    × (receiveOf begun 120 (1 ∷ []) (replicate 254 0) .outcome ≡ refuses 16)
-    × (statusSentOf begun 120 (status 8 0 false) results.Sent .outcome ≡ gives sends.Pending)
-    × (statusSentOf begun 120 (status 8 0 false) results.Sent .state .inactivity .state ≡ Waiting 120)
-    × (statusSentOf begun 120 (status 8 0 false) results.Failed .outcome ≡ gives sends.Failed)
+    × (receiveOf afterBegin 120 foreign room .outcome ≡ gives receives.Ignored)
+    × (receiveOf afterBegin 120 foreign room .procedure .inactivity ≡ I.clocked (afterBegin .inactivity) 120)
+    × (receiveOf afterBegin 120 (frame twenty 2) room .outcome ≡ refuses 12)
+    × (receiveOf afterBegin 120 (frame twenty 2) room .procedure .inactivity ≡ I.clocked (afterBegin .inactivity) 120)
+    × (receiveOf afterBegin 120 (1 ∷ []) room .procedure .inactivity ≡ I.clocked (afterBegin .inactivity) 120)
+    × (receiveOf afterBegin 120 (1 ∷ []) (replicate 254 0) .outcome ≡ refuses 16)
+    × (statusSentOf afterBegin 120 (status 8 0 false) results.Sent .outcome ≡ gives sends.Pending)
+    × (statusSentOf afterBegin 120 (status 8 0 false) results.Sent .state .inactivity .state ≡ Waiting 120)
+    × (statusSentOf afterBegin 120 (status 8 0 false) results.Failed .outcome ≡ gives sends.Failed)
 unfolding runs receiveOf accepted advanceOf statusSentOf pushFrame pushContinue finish assembled gathered slotAt putSlot same ones onesIn decodeOf headerAAt addressAt bitsOf bits value octets field upTo layout anySet encodeOf beginFrame continueFrame packed encodable inRange
 waited = (refl, refl, refl, refl, refl, refl, refl, refl, refl, refl, refl, refl)
 
@@ -239,6 +244,34 @@ pub visited : (waiting .inactivity ≡ timer (FinalWait 150) 150 false 8)
 unfolding runs receiveOf accepted advanceOf statusSentOf pushFrame pushContinue finish assembled gathered slotAt putSlot same ones onesIn decodeOf headerAAt addressAt bitsOf bits value octets field upTo layout anySet encodeOf beginFrame continueFrame packed encodable inRange
 visited = (refl, refl, refl, refl, refl, refl, refl, refl, refl, refl, refl, refl, refl, refl, refl, refl, refl, refl, refl, refl, refl, refl, refl, refl, refl, refl, refl, refl, refl)
 
+-- an order of four frames: with two of its three Continues it is not complete, by whatever frame it was polled
+abbrev two-thirds : ArqProcedure
+two-thirds = runs (fresh 7) (receive 100 (frame thirty 0) room ∷ receive 101 (frame thirty 2) room ∷ receive 102 (polled thirty 0) room ∷ receive 103 (polled thirty 1) room ∷ receive 104 (polled thirty 3) room ∷ [])
+
+abbrev three-thirds : ArqProcedure
+three-thirds = runs two-thirds (receive 105 (polled thirty 2) room ∷ [])
+
+-- it is active from the Begin to its end, in each state of the timer; a status tells the whole map before and after the message is complete
+pub lived : (receiveOf two-thirds 105 (polled thirty 1) room .outcome ≡ gives (receives.Accepted deliveries.Nothing (transmissions.Status (status 9 5 false))))
+    × (two-thirds .inactivity ≡ timer (Waiting 104) 104 false 9)
+    × (advanceOf two-thirds 135 .outcome ≡ gives None)
+    × (advanceOf two-thirds 136 .outcome ≡ gives (SendStatus (unsolicited two-thirds)))
+    × (unsolicited two-thirds .request .status .«received_frames» ≡ 5)
+    × (receiveOf two-thirds 105 (frame thirty 2) room .buffer ≡ thirty ++ replicate 225 0)
+    × (statusIn (receiveOf two-thirds 105 (polled thirty 2) room .outcome) ≡ transmissions.Status (status 9 7 true))
+    × (receiveOf three-thirds 106 (polled thirty 1) room .outcome ≡ gives (receives.Accepted deliveries.Nothing (transmissions.Status (status 9 7 true))))
+    × (advanceOf three-thirds 900 .outcome ≡ gives None)
+    × (activeOf (fresh 7) ≡ false)
+    × (activeOf afterBegin ≡ true)
+    × (activeOf asked ≡ true)
+    × (activeOf told ≡ true)
+    × (activeOf back ≡ true)
+    × (activeOf half ≡ true)
+    × (activeOf sending ≡ true)
+    × (activeOf three-thirds ≡ true)
+unfolding runs receiveOf accepted advanceOf statusSentOf pushFrame pushContinue finish assembled gathered slotAt putSlot same ones onesIn decodeOf headerAAt addressAt bitsOf bits value octets field upTo layout anySet encodeOf beginFrame continueFrame packed encodable inRange
+lived = (refl, refl, refl, refl, refl, refl, refl, refl, refl, refl, refl, refl, refl, refl, refl, refl, refl)
+
 -- what stands beside a refused constructor: nothing held, for Tmsi20 of 0, under token 0
 pub blank : (blankProcedure .inactivity ≡ timer Idle 0 false 0) × (blankProcedure .receiver ≡ R.fresh (Tmsi20 0))
 blank = (refl, refl)
@@ -251,9 +284,9 @@ unfolding runs Each receiveOf accepted advanceOf pushFrame pushContinue finish a
 pending = record { status = unsolicited (runs longer (advance 132 ∷ [])); asked = refl; under = refl; unanswered = ((λ a. a .0), tt) }
 
 -- one was sent, though octets that are no frame were refused and a reset was not called since
-pub reported : ReportedSent begun 132 (receive 140 (1 ∷ []) room ∷ advance 141 ∷ []) 150 (unsolicited asked) results.Sent
+pub told-sent : ReportedSent afterBegin 132 (receive 140 (1 ∷ []) room ∷ advance 141 ∷ []) 150 (unsolicited asked) results.Sent
 unfolding runs Each receiveOf accepted advanceOf statusSentOf pushFrame pushContinue finish assembled gathered slotAt putSlot same ones onesIn decodeOf headerAAt addressAt bitsOf bits value octets field upTo layout anySet encodeOf beginFrame continueFrame packed encodable inRange
-reported = record {
+told-sent = record {
   status = unsolicited asked;
   asked = refl;
   silent = (((λ a. let e = a .2 in let z : _≡_ {A = ℕ} 0 1 = cc in omega arith), (λ a. a)), (((λ a. a), (λ a. a)), tt));

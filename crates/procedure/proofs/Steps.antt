@@ -23,9 +23,10 @@ use Rattle.procedure.specs.declared.StatusKind.{StatusKind}
 use Rattle.procedure.specs.declared.StatusKind.the-variants.{Solicited, Unsolicited}
 use Rattle.procedure.specs.declared.StatusTransmission.{StatusTransmission}
 use Rattle.procedure.specs.declared.ArqProcedure.{ArqProcedure}
-use Rattle.procedure.specs.Procedure.{Sound, withTimer, ended, begun, timed, endsUnpolled, accepted, dueAt, reported, statusSentOf}
+use Rattle.procedure.specs.Procedure.{Sound, withTimer, ended, dueAt, afterSent, statusSentOf}
+use Rattle.procedure.specs.Parts.{resetBy, timed, endsUnpolled, accepted}
 use Rattle.procedure.specs.History.{Call, receive, advance, statusSent, reset, after, Taken, AcceptsUnsolicited, present}
-use Rattle.procedure.proofs.Ways.{Clocked, reset-ways, due-ways, advance-ways, sent-ways, receive-ways}
+use Rattle.procedure.proofs.CallCases.{Clocked, reset-ways, due-ways, advance-ways, sent-ways, receive-ways}
 
 -- ---- the timer
 
@@ -58,12 +59,12 @@ module _ {A : Type 0} (t : ArqInactivity) (s : I.Sound t) (b : ℕ) (later : t .
   twice : Turnout A t (renewed (renewed (clocked t b)))
   twice = let n = newer t s tokens in renews (let x = n .0 in let y = n .1 in omega arith) later
 
-  begun-turns : (begin : Bool) → Turnout A t (begun begin (clocked t b))
-  begun-turns true = once
-  begun-turns false = keeps refl inl later
+  reset-by-turns : (begin : Bool) → Turnout A t (resetBy begin (clocked t b))
+  reset-by-turns true = once
+  reset-by-turns false = keeps refl inl later
 
   timed-turns : (begin complete : Bool) → Turnout A t (timed begin complete (clocked t b))
-  timed-turns begin true = begun-turns begin
+  timed-turns begin true = reset-by-turns begin
   timed-turns true false = let n = newer t s tokens in renews (n .0) later
   timed-turns false false = keeps refl inl later
 
@@ -95,9 +96,9 @@ module _ {A : Type 0} (t : ArqInactivity) (s : I.Sound t) (b : ℕ) (later : t .
       by true = keeps refl (λ h. inr a) later
       by false = keeps refl inl later
 
-  reported-turns : (k : StatusKind) → (k ≡ Unsolicited → A) → Turnout A t (reported k (clocked t b))
-  reported-turns Solicited a = solicited-turns
-  reported-turns Unsolicited a = unsolicited-turns (a refl)
+  after-sent-turns : (k : StatusKind) → (k ≡ Unsolicited → A) → Turnout A t (afterSent k (clocked t b))
+  after-sent-turns Solicited a = solicited-turns
+  after-sent-turns Unsolicited a = unsolicited-turns (a refl)
 
 -- ---- the procedure
 
@@ -116,8 +117,8 @@ module _ (p : ArqProcedure) (s : Sound p) (b : ℕ) (x : StatusTransmission) whe
   sent-turns A r =
       sent-ways (λ a. ((x .kind ≡ Unsolicited) × (x .token ≡ present p) × Taken (a .outcome) → A) → Turns A p (a .state)) p b x r (λ e k. same (p .inactivity)) (λ n k. same (p .inactivity))
       (λ q o c e f k. at (λ z. Turns A p (ended z)) c (once (p .inactivity) (s .inactivity) b (c .later) (c .tokens)))
-      (λ q o c k. at (λ z. Turns A p (withTimer z (reported (x .kind) (z .inactivity)))) c
-      (reported-turns (p .inactivity) (s .inactivity) b (c .later) (c .tokens) (x .kind) (λ u. k (u, owned (p .inactivity) (x .token) o, tt))))
+      (λ q o c k. at (λ z. Turns A p (withTimer z (afterSent (x .kind) (z .inactivity)))) c
+      (after-sent-turns (p .inactivity) (s .inactivity) b (c .later) (c .tokens) (x .kind) (λ u. k (u, owned (p .inactivity) (x .token) o, tt))))
 
 -- what nothing can be is as good as anything
 weaken : {A : Type 0} {t u : ArqInactivity} → Turnout ⊥ t u → Turnout A t u

@@ -1,14 +1,14 @@
 -- 01, module 5: ArqProcedure, in the order of the Rust. What each call answers, and the procedure and the buffer that it
 -- leaves. Assumes nothing.
 use mathlib.Core.Path.{_≡_}
-use mathlib.Core.Bool.{Bool, true, false, cond}
+use mathlib.Core.Bool.{Bool, true, false, cond, _&&_}
 use mathlib.Core.List.{List}
 use Prim.Native.Nat.{ℕ}
 use lib.Dec.{ltb}
 use lib.ListN.{length}
 use Rattle.rach.specs.declared.MobileIdentity.{MobileIdentity}
+use Rattle.token.specs.Token.{fewerThan}
 use Rattle.spach.specs.Refusal.{Outcome, gives, refuses, refuse, andThen, verdictOf, After, onward}
-use Rattle.arq.specs.declared.ArqFrame.{ArqFrame}
 use Rattle.arq.specs.declared.ResponseMode.the-variants.{Contention}
 use Rattle.arq.specs.Encode.{byKind}
 use Rattle.arq.specs.Decode.{decodeOf}
@@ -93,36 +93,6 @@ pub record Out : Type 0 where
   pub procedure : ArqProcedure
   pub buffer : List ℕ
 
--- IS-136.1-A 5.4.2: a Begin replaces the transaction, and resets the timer
-abbrev pub begun : Bool → ArqInactivity → ArqInactivity
-begun begin t = cond begin (renewed t) t
-
--- while the message is not complete it waits from this block on
-abbrev pub timed : Bool → Bool → ArqInactivity → ArqInactivity
-timed begin complete t = cond complete (begun begin t) (waiting (begun begin t))
-
--- the status that a polled frame asks for, under the timer's token
-abbrev pub polled : Request → ArqInactivity → Bool → Transmission
-polled requests.Nothing t complete = transmissions.Nothing
-polled (requests.Status r) t complete = transmissions.Status (record { request = r; token = t .transaction; kind = Solicited; «complete_at_poll» = complete })
-
--- a complete message whose frame was not polled ends the transaction
-abbrev pub endsUnpolled : Request → Bool → ArqProcedure → ArqProcedure
-endsUnpolled requests.Nothing complete p = cond complete (ended p) p
-endsUnpolled (requests.Status r) complete p = p
-
--- a frame that the receiver accepted: `begin` if it is a Begin
-unfoldable pub accepted : Bool → Delivery → Request → ArqProcedure → After ReceiveEvent ArqProcedure
-accepted begin m r p =
-    let complete = completeOf (p .receiver) in
-    let t = timed begin complete (p .inactivity) in
-    says (receives.Accepted m (polled r t complete)) (endsUnpolled r complete (withTimer p t))
-
--- by what the receiver says of it
-abbrev pub heard : Bool → Reception → ArqProcedure → After ReceiveEvent ArqProcedure
-heard begin receptions.Ignored p = says receives.Ignored p
-heard begin (receptions.Accepted m r) p = accepted begin m r p
-
 -- what a receive leaves, with the buffer
 abbrev pub beside : After ReceiveEvent ArqProcedure → List ℕ → Out
 beside a b = record { outcome = a .outcome; procedure = a .state; buffer = b }
@@ -131,32 +101,45 @@ beside a b = record { outcome = a .outcome; procedure = a .state; buffer = b }
 abbrev pub refusal : ℕ → ArqProcedure → List ℕ → Out
 refusal n p b = record { outcome = refuses n; procedure = p; buffer = b }
 
--- the receiver's answer to the frame: a refusal leaves the receiver as it was
-abbrev pub byAnswer : Bool → Outcome Reception → ArqProcedure → List ℕ → Out
-byAnswer begin (gives r) p b = beside (heard begin r p) b
-byAnswer begin (refuses n) p b = refusal n p b
+-- a refusal ends the call, with the procedure p and the buffer b left; else it goes on with what was given
+abbrev pub goesOn : {A : Type 0} → ArqProcedure → List ℕ → Outcome A → (A → Out) → Out
+goesOn p b (gives a) next = next a
+goesOn p b (refuses n) next = refusal n p b
 
--- a frame that was decoded is pushed
-abbrev pub pushes : ArqProcedure → List ℕ → ArqFrame → Out
-pushes p b f = let o = pushFrame (p .receiver) b f in byAnswer (byKind (f .kind) true false) (o .outcome) (record { receiver = o .receiver; inactivity = p .inactivity }) (o .buffer)
+-- a frame that is Ignored ends it too; else it goes on with the message, if there is one, and with what status is asked for
+abbrev pub orIgnored : Out → Reception → (Delivery → Request → Out) → Out
+orIgnored o receptions.Ignored next = o
+orIgnored o (receptions.Accepted m r) next = next m r
 
--- decode's refusals come before
-abbrev pub decoded : ArqProcedure → List ℕ → Outcome ArqFrame → Out
-decoded p b (gives f) = pushes p b f
-decoded p b (refuses n) = refusal n p b
+-- the status that a polled frame asks for, under the timer's token
+abbrev pub polled : Request → ArqInactivity → Bool → Transmission
+polled requests.Nothing t complete = transmissions.Nothing
+polled (requests.Status r) t complete = transmissions.Status (record { request = r; token = t .transaction; kind = Solicited; «complete_at_poll» = complete })
 
--- fewer than 4 tokens left 18; room under 255 octets 16; the clock gone back 17; then the clock is moved
-abbrev pub letThrough : ArqInactivity → ℕ → ℕ → Outcome ArqInactivity
-letThrough t b room = andThen (enough t) (λ u. refuse (ltb room 255) 16 (ticked u b))
+-- no status is asked for
+abbrev pub unpolled : Request → Bool
+unpolled requests.Nothing = true
+unpolled (requests.Status r) = false
 
--- at the moved clock, if it comes to that
-abbrev pub thenHears : ArqProcedure → List ℕ → List ℕ → Outcome ArqInactivity → Out
-thenHears p xs b (gives t) = decoded (withTimer p t) b (decodeOf xs)
-thenHears p xs b (refuses n) = refusal n p b
-
--- `receive`: 18, 16, 17, push's; an accepted clock stays moved
+-- `receive` (IS-136.1-A 5.4.2), in the order of the Rust: fewer than 4 tokens left 18; buffer under 255 octets 16; the clock gone
+-- back 17; an accepted clock stays moved. Then decode's refusals and push's. A Begin replaces the transaction, and resets the
+-- timer; while the message is not complete it waits from this block on; a complete message whose frame was not polled ends the
+-- transaction
 unfoldable pub receiveOf : ArqProcedure → ℕ → List ℕ → List ℕ → Out
-receiveOf p block xs b = thenHears p xs b (letThrough (p .inactivity) block (length b))
+receiveOf p block xs b =
+    let timer = p .inactivity in
+    goesOn p b (refuse (fewerThan 4 (timer .«next_token»)) 18 (refuse (ltb (length b) 255) 16 (ticked timer block))) (λ moved.
+    goesOn (withTimer p moved) b (decodeOf xs) (λ frame.
+    let begin = byKind (frame .kind) true false in
+    let o = pushFrame (p .receiver) b frame in
+    let pushed : ArqProcedure = record { receiver = o .receiver; inactivity = moved } in
+    goesOn pushed (o .buffer) (o .outcome) (λ said.
+    orIgnored (beside (says receives.Ignored pushed) (o .buffer)) said (λ message request.
+    let reset = cond begin (renewed moved) moved in
+    let complete = completeOf (o .receiver) in
+    let waits = cond complete reset (waiting reset) in
+    let q = withTimer pushed waits in
+    beside (says (receives.Accepted message (polled request waits complete)) (cond (complete && unpolled request) (ended q) q)) (o .buffer)))))
 
 -- ---- advance
 
@@ -187,13 +170,13 @@ advanceOf p b = onward p (admits p b) dueAt
 -- ---- status_sent
 
 -- the timer after a status of a kind was sent
-abbrev pub reported : StatusKind → ArqInactivity → ArqInactivity
-reported Solicited t = solicitedAt results.Sent t .timer
-reported Unsolicited t = unsolicitedAt results.Sent t .timer
+abbrev pub afterSent : StatusKind → ArqInactivity → ArqInactivity
+afterSent Solicited t = solicitedAt results.Sent t .timer
+afterSent Unsolicited t = unsolicitedAt results.Sent t .timer
 
 -- at the moved clock
 abbrev pub sentAt : StatusTransmission → StatusResult → ArqProcedure → After SendEvent ArqProcedure
-sentAt x results.Sent p = cond (x .«complete_at_poll») (says sends.Complete (ended p)) (says sends.Pending (withTimer p (reported (x .kind) (p .inactivity))))
+sentAt x results.Sent p = cond (x .«complete_at_poll») (says sends.Complete (ended p)) (says sends.Pending (withTimer p (afterSent (x .kind) (p .inactivity))))
 sentAt x results.Failed p = says sends.Failed (ended p)
 
 -- a foreign token is Ignored first; then 18, then 17

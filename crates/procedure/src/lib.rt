@@ -1,8 +1,8 @@
 // The receive procedure: a receiver and its inactivity timer.
 // Ported from link/spach/arq/procedure.rs (chrismoos/136-bts 7c60b63bf4, Apache-2.0) and changed: see NOTICE.
-pub mod receive;
-pub mod status;
-pub mod timer;
+mod receive;
+mod status;
+mod timer;
 
 use inactivity::Admission;
 use inactivity::ArqInactivity;
@@ -16,7 +16,8 @@ use receiver::StatusRequest;
 use spach::SpachError;
 use spach::Verdict;
 ghost use mathlib.Core.Path.{_≡_};
-ghost use Rattle.spach.specs.Refusal.{gives, verdictOf, answered};
+ghost use Rattle.spach.specs.Refusal.{gives, verdictOf};
+ghost use Rattle.spach.specs.Answered.{answered};
 ghost use Rattle.procedure.specs.Procedure.{Sound, newOf, blankProcedure, withTimer, ended, resetOf, activeOf, receiveOf, advanceOf, statusSentOf, madeAnswer, hasReset, received, advanced, sent};
 
 pub enum StatusKind {

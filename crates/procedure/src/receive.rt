@@ -26,7 +26,8 @@ ghost use Rattle.spach.specs.Refusal.{refuses};
 ghost use Rattle.arq.specs.Encode.{byKind};
 ghost use Rattle.arq.specs.Decode.{decodeOf};
 ghost use Rattle.inactivity.specs.Inactivity.{admission, refusalOf};
-ghost use Rattle.procedure.specs.Procedure.{says, told, received, begun, timed, polled, endsUnpolled, accepted, heard, pushes, decoded, letThrough};
+ghost use Rattle.procedure.specs.Procedure.{says, told, received, polled};
+ghost use Rattle.procedure.specs.Parts.{resetBy, timed, endsUnpolled, accepted, byReception, pushes, decoded, letThrough};
 
 pub fn refuse(p: ArqProcedure, error: ProcedureError) -> Received
     ensures { λ r. ⌜ told r ≡ record { outcome = refuses (refusalOf error); state = p } ⌝ }
@@ -60,8 +61,8 @@ pub fn admit(timer: ArqInactivity, block: u64, room: usize) -> Admission
 }
 
 // A Begin resets the timer.
-fn begun(begin: bool, timer: ArqInactivity) -> ArqInactivity
-    ensures { λ r. ⌜ r ≡ begun begin timer ⌝ }
+fn reset_by(begin: bool, timer: ArqInactivity) -> ArqInactivity
+    ensures { λ r. ⌜ r ≡ resetBy begin timer ⌝ }
 {
     if begin {
         return timer.renew();
@@ -73,7 +74,7 @@ fn begun(begin: bool, timer: ArqInactivity) -> ArqInactivity
 fn timed(begin: bool, complete: bool, timer: ArqInactivity) -> ArqInactivity
     ensures { λ r. ⌜ r ≡ timed begin complete timer ⌝ }
 {
-    let t = begun(begin, timer);
+    let t = reset_by(begin, timer);
     if complete {
         return t;
     }
@@ -131,7 +132,7 @@ fn accept(p: ArqProcedure, begin: bool, message: Delivery, request: Request) -> 
 
 // By what the receiver says of the frame.
 fn hear(p: ArqProcedure, begin: bool, reception: Reception) -> Received
-    ensures { λ r. ⌜ told r ≡ heard begin reception p ⌝ }
+    ensures { λ r. ⌜ told r ≡ byReception begin reception p ⌝ }
 {
     let Reception::Accepted {
         message,

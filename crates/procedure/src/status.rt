@@ -12,7 +12,7 @@ use inactivity::StatusResult;
 ghost use mathlib.Core.Path.{_≡_};
 ghost use Rattle.spach.specs.Refusal.{refuses};
 ghost use Rattle.inactivity.specs.Inactivity.{refusalOf};
-ghost use Rattle.procedure.specs.Procedure.{says, sent, reported, sentAt};
+ghost use Rattle.procedure.specs.Procedure.{says, sent, afterSent, sentAt};
 
 pub fn refuse(p: ArqProcedure, error: ProcedureError) -> Sent
     ensures { λ r. ⌜ sent r ≡ record { outcome = refuses (refusalOf error); state = p } ⌝ }
@@ -33,8 +33,8 @@ pub fn event(p: ArqProcedure, event: SendEvent) -> Sent
 }
 
 // The timer after a status of this kind was sent.
-fn reported(kind: StatusKind, timer: ArqInactivity) -> ArqInactivity
-    ensures { λ r. ⌜ r ≡ reported kind timer ⌝ }
+fn after_sent(kind: StatusKind, timer: ArqInactivity) -> ArqInactivity
+    ensures { λ r. ⌜ r ≡ afterSent kind timer ⌝ }
 {
     match kind {
         StatusKind::Solicited => {
@@ -60,6 +60,6 @@ pub fn report(p: ArqProcedure, transmission: StatusTransmission, result: StatusR
     }
     let kind = transmission.kind;
     let inactivity = p.inactivity;
-    let timer = reported(kind, inactivity);
+    let timer = after_sent(kind, inactivity);
     event(p.with_timer(timer), SendEvent::Pending)
 }

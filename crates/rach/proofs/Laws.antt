@@ -1,5 +1,6 @@
 -- Laws of identities. Assumes nothing.
 use mathlib.Core.Path.{_≡_, refl, sym, ap, ap₂, _∙_}
+use mathlib.Core.Logic.{_↔_}
 use mathlib.Core.Bool.{Bool, true, false, _&&_}
 use Prim.Native.Nat.{ℕ, zero, suc, _^_, _<_, _≤_}
 use native.Mathlib.Omega.{arith}
@@ -21,20 +22,23 @@ pub width-least : (t : ℕ) → 20 ≤ widthOf t
 width-least zero = omega arith
 width-least (suc zero) = omega arith
 width-least (suc (suc zero)) = omega arith
-width-least (suc (suc (suc t))) = omega arith
+width-least (suc (suc (suc zero))) = omega arith
+width-least (suc (suc (suc (suc t)))) = omega arith
 
 pub width-most : (t : ℕ) → widthOf t ≤ 50
 width-most zero = omega arith
 width-most (suc zero) = omega arith
 width-most (suc (suc zero)) = omega arith
-width-most (suc (suc (suc t))) = omega arith
+width-most (suc (suc (suc zero))) = omega arith
+width-most (suc (suc (suc (suc t)))) = omega arith
 
 -- a type that is none of 0, 1 and 2
 pub width-rest : (t : ℕ) → (t ≡ 0 → ⊥) → (t ≡ 1 → ⊥) → (t ≡ 2 → ⊥) → 50 ≡ widthOf t
 width-rest zero a b c = absurd (a refl)
 width-rest (suc zero) a b c = absurd (b refl)
 width-rest (suc (suc zero)) a b c = absurd (c refl)
-width-rest (suc (suc (suc t))) a b c = refl
+width-rest (suc (suc (suc zero))) a b c = refl
+width-rest (suc (suc (suc (suc t)))) a b c = refl
 
 pub identity-rest : (t v : ℕ) → (t ≡ 0 → ⊥) → (t ≡ 1 → ⊥) → (t ≡ 2 → ⊥) → Imsi50 v ≡ identityOf t v
 identity-rest zero v a b c = absurd (a refl)
@@ -61,6 +65,42 @@ type-identity (suc zero) v h = refl
 type-identity (suc (suc zero)) v h = refl
 type-identity (suc (suc (suc zero))) v h = refl
 type-identity (suc (suc (suc (suc t)))) v h = absurd (omega arith)
+
+-- "Type and width: Tmsi20 0, 20; Tmsi24 1, 24; Min34 2, 34; Imsi50 3, 50": of every value
+pub type-exactly : (v : ℕ) → (typeOf (Tmsi20 v) ≡ 0) × (typeOf (Tmsi24 v) ≡ 1) × (typeOf (Min34 v) ≡ 2) × (typeOf (Imsi50 v) ≡ 3)
+type-exactly v = (refl, refl, refl, refl)
+
+pub value-exactly : (v : ℕ) → (valueOf (Tmsi20 v) ≡ v) × (valueOf (Tmsi24 v) ≡ v) × (valueOf (Min34 v) ≡ v) × (valueOf (Imsi50 v) ≡ v)
+value-exactly v = (refl, refl, refl, refl)
+
+pub width-exactly : (widthOf 0 ≡ 20) × (widthOf 1 ≡ 24) × (widthOf 2 ≡ 34) × (widthOf 3 ≡ 50)
+width-exactly = (refl, refl, refl, refl)
+
+pub identity-exactly : (v : ℕ) → (identityOf 0 v ≡ Tmsi20 v) × (identityOf 1 v ≡ Tmsi24 v) × (identityOf 2 v ≡ Min34 v) × (identityOf 3 v ≡ Imsi50 v)
+identity-exactly v = (refl, refl, refl, refl)
+
+-- the parts of an identity, as that table has them
+abbrev pub PartsAre : MobileIdentity → (type width value : ℕ) → Type 0
+PartsAre (Tmsi20 x) t w v = (t ≡ 0) × (w ≡ 20) × (v ≡ x)
+PartsAre (Tmsi24 x) t w v = (t ≡ 1) × (w ≡ 24) × (v ≡ x)
+PartsAre (Min34 x) t w v = (t ≡ 2) × (w ≡ 34) × (v ≡ x)
+PartsAre (Imsi50 x) t w v = (t ≡ 3) × (w ≡ 50) × (v ≡ x)
+
+-- are these and no others
+pub parts-exactly : (i : MobileIdentity) (p : IdentityParts) → (partsOf i ≡ p) ↔ PartsAre i (p .«identity_type») (p .width) (p .value)
+parts-exactly i p = (there i, back i)
+  where
+    there : (j : MobileIdentity) → partsOf j ≡ p → PartsAre j (p .«identity_type») (p .width) (p .value)
+    there (Tmsi20 x) e = (ap (λ q. q .«identity_type») (sym e), ap (λ q. q .width) (sym e), ap (λ q. q .value) (sym e))
+    there (Tmsi24 x) e = (ap (λ q. q .«identity_type») (sym e), ap (λ q. q .width) (sym e), ap (λ q. q .value) (sym e))
+    there (Min34 x) e = (ap (λ q. q .«identity_type») (sym e), ap (λ q. q .width) (sym e), ap (λ q. q .value) (sym e))
+    there (Imsi50 x) e = (ap (λ q. q .«identity_type») (sym e), ap (λ q. q .width) (sym e), ap (λ q. q .value) (sym e))
+
+    back : (j : MobileIdentity) → PartsAre j (p .«identity_type») (p .width) (p .value) → partsOf j ≡ p
+    back (Tmsi20 x) e = rw (← e .0, ← e .1, ← e .2)
+    back (Tmsi24 x) e = rw (← e .0, ← e .1, ← e .2)
+    back (Min34 x) e = rw (← e .0, ← e .1, ← e .2)
+    back (Imsi50 x) e = rw (← e .0, ← e .1, ← e .2)
 
 -- both tests hold
 pub both : (a b : Bool) → a && b ≡ true → (a ≡ true) × (b ≡ true)
@@ -106,6 +146,11 @@ unfolding inRange
 range-in v w e =
     let p = both (ltb 0 v) (ltb v (2 ^ w)) e in
     (ltb-true 0 v (p .0), ltb-true v (2 ^ w) (p .1))
+
+-- "Encoding needs 1 to 2^width − 1": of every identity
+pub encodable-exactly : (i : MobileIdentity) → (encodable i ≡ true) ↔ ((0 < valueOf i) × (valueOf i < 2 ^ widthOf (typeOf i)))
+unfolding encodable
+encodable-exactly i = (range-in (valueOf i) (widthOf (typeOf i)), λ p. in-range (valueOf i) (widthOf (typeOf i)) (p .0) (p .1))
 
 -- the identity of a type and of a value in its range can be encoded
 pub identity-encodable : (t v : ℕ) → t < 4 → (v ≡ 0 → ⊥) → v < 2 ^ widthOf t → encodable (identityOf t v) ≡ true

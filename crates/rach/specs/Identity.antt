@@ -1,8 +1,10 @@
 -- 01, module 1: MobileIdentity, its type, width and value. Values are as the air interface packs them: a MIN or an IMSI is no
 -- decimal number. Assumes nothing.
 use mathlib.Core.Bool.{Bool, _&&_}
+use mathlib.Core.List.{List, [], _∷_}
 use Prim.Native.Nat.{ℕ, zero, suc, _^_}
 use lib.Dec.{eqb, ltb}
+use lib.ListN.{getD}
 use Rattle.rach.specs.declared.MobileIdentity.{MobileIdentity}
 use Rattle.rach.specs.declared.MobileIdentity.the-variants.{Tmsi20, Tmsi24, Min34, Imsi50}
 use Rattle.rach.specs.declared.IdentityParts.{IdentityParts}
@@ -21,12 +23,13 @@ valueOf (Tmsi24 v) = v
 valueOf (Min34 v) = v
 valueOf (Imsi50 v) = v
 
--- the width in bits of the values of a type: 0, 1, 2 and 3 (two bits hold no other)
+-- the widths in bits of the values of types 0 to 3
+abbrev pub widths : List ℕ
+widths = 20 ∷ 24 ∷ 34 ∷ 50 ∷ []
+
+-- the width of a type (two bits hold no type above 3)
 abbrev pub widthOf : ℕ → ℕ
-widthOf zero = 20
-widthOf (suc zero) = 24
-widthOf (suc (suc zero)) = 34
-widthOf (suc (suc (suc n))) = 50
+widthOf t = getD widths t 50
 
 -- the identity of a type and a value
 abbrev pub identityOf : ℕ → ℕ → MobileIdentity

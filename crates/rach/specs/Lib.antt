@@ -1,2 +1,2 @@
--- 01, module 1. Believe the numbers of `typeOf`, the widths of `widthOf`, and `inRange`.
+-- 01, module 1. Believe the numbers of `typeOf`, the table `widths`, and `inRange`.
 pub mod Identity

@@ -17,7 +17,7 @@ use Rattle.rach.specs.Identity.{typeOf}
 use Rattle.rach.proofs.Laws.{width-least}
 use Rattle.arq.specs.Frame.{room}
 use Rattle.receiver.specs.declared.ArqReassembler.{ArqReassembler}
-use Rattle.receiver.specs.Receiver.{needed, startOf, slotAt, gathered, assembled}
+use Rattle.receiver.specs.Receiver.{needed, firstBit, slotAt, gathered, assembled}
 
 -- the bits of slot k
 pub slot-bits : (s : List ℕ) (k : ℕ) → bitsOf (slotAt s k) ≡ take 80 (drop (80 * k) (bitsOf s))
@@ -74,26 +74,26 @@ module _ (s : ArqReassembler) (seven : length (s .transaction .«begin_data») �
       ∙ ap₂ (λ (x y : ℕ). x + y) length-begin (length-gathered (s .slots) k (omega arith))
 
   -- at first the Begin's
-  pub parts-zero : take (startOf s 0) (bitsOf (s .transaction .«begin_data»)) ≡ parts s 0
+  pub parts-zero : take (firstBit s 0) (bitsOf (s .transaction .«begin_data»)) ≡ parts s 0
   unfolding gathered
   parts-zero =
       let r : ℕ = room (s .identity) in
       let n : ℕ = 8 * s .transaction .«message_octets» in
       let e : min n r + 79 * 0 ≡ min n (r + 79 * 0) = omega arith in
-      sym (take-take (startOf s 0) r (bitsOf (s .transaction .«begin_data»)) (omega arith))
+      sym (take-take (firstBit s 0) r (bitsOf (s .transaction .«begin_data»)) (omega arith))
       ∙ ap₂ take e (sym (append-nil (take r (bitsOf (s .transaction .«begin_data»)))))
 
   -- then one slot's more
   pub parts-suc : (k : ℕ) → k < needed s → k < 26
-      → splice (startOf s k) (take (min 79 (8 * s .transaction .«message_octets» - startOf s k)) (drop (80 * k) (bitsOf (s .slots)))) (splice 0 (parts s k) (zeros 2040))
+      → splice (firstBit s k) (take (min 79 (8 * s .transaction .«message_octets» - firstBit s k)) (drop (80 * k) (bitsOf (s .slots)))) (splice 0 (parts s k) (zeros 2040))
       ≡ splice 0 (parts s (k + 1)) (zeros 2040)
   parts-suc k h l =
       let r : ℕ = room (s .identity) in
       let n : ℕ = 8 * s .transaction .«message_octets» in
-      let j : ℕ = min 79 (n - startOf s k) in
+      let j : ℕ = min 79 (n - firstBit s k) in
       let lj : length (joined s k) ≡ r + 79 * k = length-joined k (omega arith) in
       let whole : parts s k ≡ joined s k = take-all (min n (r + 79 * k)) (joined s k) (omega arith) in
-      let lp : length (parts s k) ≡ startOf s k = ap length whole ∙ lj ∙ omega arith in
+      let lp : length (parts s k) ≡ firstBit s k = ap length whole ∙ lj ∙ omega arith in
       let z : 0 + k ≡ k = omega arith in
       let run : take j (drop (80 * k) (bitsOf (s .slots))) ≡ take j (take 79 (bitsOf (slotAt (s .slots) k))) =
       sym (take-take j 80 (drop (80 * k) (bitsOf (s .slots))) (omega arith)) ∙ ap (take j) (sym (slot-bits (s .slots) k)) ∙ sym (take-take j 79 (bitsOf (slotAt (s .slots) k)) (omega arith)) in
@@ -102,7 +102,7 @@ module _ (s : ArqReassembler) (seven : length (s .transaction .«begin_data») �
       ∙ ap (λ (g : List Bool). take r (bitsOf (s .transaction .«begin_data»)) ++ g) (gathered-suc (s .slots) 0 k ∙ ap (λ (m : ℕ). gathered (s .slots) 0 k ++ take 79 (bitsOf (slotAt (s .slots) m))) z)
       ∙ sym (append-assoc (take r (bitsOf (s .transaction .«begin_data»))) (gathered (s .slots) 0 k) (take 79 (bitsOf (slotAt (s .slots) k)))) in
       let count : min n (r + 79 * (k + 1)) ≡ length (joined s k) + j = omega arith in
-      splice-after (parts s k) (take j (drop (80 * k) (bitsOf (s .slots)))) (zeros 2040) (startOf s k) (sym lp) (omega (arith, width-least (typeOf (s .identity))))
+      splice-after (parts s k) (take j (drop (80 * k) (bitsOf (s .slots)))) (zeros 2040) (firstBit s k) (sym lp) (omega (arith, width-least (typeOf (s .identity))))
       ∙ ap (λ (p : List Bool). splice 0 p (zeros 2040))
       (ap₂ (λ (a b : List Bool). a ++ b) whole run
       ∙ sym (take-append-add (joined s k) (take 79 (bitsOf (slotAt (s .slots) k))) j)

@@ -1,5 +1,5 @@
 -- What is known of a frame that was heard, and of one that the cut gave. Assumes nothing.
-use mathlib.Core.Path.{_≡_, refl, sym, ap, _∙_}
+use mathlib.Core.Path.{_≡_, refl, sym, ap, subst, _∙_}
 use mathlib.Core.Bool.{Bool, true, false, cond, not}
 use mathlib.Core.List.{List}
 use Prim.Native.Nat.{ℕ, suc, _+_, _*_, _^_, _≤_, _<_}
@@ -23,10 +23,12 @@ use Rattle.arq.specs.declared.FrameKind.the-variants.{Begin}
 use Rattle.arq.specs.declared.ArqHeader.{ArqHeader}
 use Rattle.arq.specs.declared.ArqFrame.{ArqFrame}
 use Rattle.arq.specs.Frame.{room, beginData, continueData, aBegin, aContinue}
-use Rattle.arq.specs.Decode.{headerAt, decodeBegin, decodeContinue, decodeKind, decodeOf}
+use Rattle.arq.specs.Decode.{decodeOf}
+use Rattle.arq.specs.Parts.{headerAt, decodeBegin, decodeContinue, decodeKind}
 use Rattle.arq.specs.Cut.{continues, cutChecked, cutFrame, countOf, frameOf}
 use Rattle.arq.proofs.Cuts.{room-most, begin-holds, continue-holds}
 use Rattle.arq.proofs.Decoded.{address-ends}
+use Rattle.arq.proofs.Parts.{decode-parts}
 use Rattle.arq.proofs.Round.{header-accepted}
 use Rattle.receiver.specs.Demand3.{CutFrom, OfCut}
 
@@ -92,10 +94,9 @@ module _ (a : HeaderA) (bs : List Bool) (size : length bs ≡ 112) (f : ArqFrame
 
 -- every frame that decode gives is so
 pub decoded : (xs : List ℕ) (f : ArqFrame) → decodeOf xs ≡ gives f → Decoded f
-unfolding decodeOf
 decoded xs f e =
     let bs : List Bool = bitsOf xs in
-    let x = passed (not (eqb (length xs) 14)) 1 _ e in
+    let x = passed (not (eqb (length xs) 14)) 1 _ (sym (decode-parts xs) ∙ e) in
     let y = passed (not (eqb (field 109 3 bs) 0)) 15 _ (x .1) in
     let g = then-gives (headerAAt 0 bs) _ (y .1) in
     let u = passed (eqb (usageOf (g .0 .channel)) 7) 3 _ (g .2) in
@@ -156,12 +157,12 @@ module _ (bs : List Bool) where
 
 -- decode's refusals are 1 to 15
 within-decode : (xs : List ℕ) → Within (decodeOf xs)
-unfolding decodeOf
 within-decode xs =
     let bs : List Bool = bitsOf xs in
-    within-refuse (not (eqb (length xs) 14)) 1 (omega arith)
+    subst Within (sym (decode-parts xs))
+    (within-refuse (not (eqb (length xs) 14)) 1 (omega arith)
     (within-refuse (not (eqb (field 109 3 bs) 0)) 15 (omega arith)
-    (within-then (headerAAt 0 bs) (within-header bs) (λ h. within-refuse (eqb (usageOf (h .channel)) 7) 3 (omega arith) (within-kind bs h))))
+    (within-then (headerAAt 0 bs) (within-header bs) (λ h. within-refuse (eqb (usageOf (h .channel)) 7) 3 (omega arith) (within-kind bs h)))))
 
 -- so no refusal of decode is 16
 pub decode-numbers : (xs : List ℕ) (n : ℕ) → decodeOf xs ≡ refuses n → n ≤ 15

@@ -38,7 +38,7 @@ use Rattle.receiver.specs.Map.{In}
 use Rattle.receiver.specs.Receiver.{Out, fresh, newOf, slotAt, putSlot, gathered, assembled, finish, sameOctets, pushContinue, pushFrame, pushOf, statusAnswer}
 use Rattle.receiver.specs.Demand3.{Push, heard, heards, BeginFor, Such, OfCut, Fitting, Holds, Claim, handed, runs}
 use Rattle.receiver.proofs.Heard.{piece}
-use Rattle.receiver.proofs.Ways.{true-false, pick-true, pick-begin, pick-continue, both-true, same-octets}
+use Rattle.receiver.proofs.PushCases.{true-false, pick-true, pick-begin, pick-continue, both-true, same-octets}
 use Rattle.receiver.proofs.Whole.{demand3}
 
 -- ---- the pushes

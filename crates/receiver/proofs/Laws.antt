@@ -3,17 +3,21 @@ use mathlib.Core.Path.{_≡_, refl, sym, ap, _∙_}
 use mathlib.Core.Logic.{_⊎_, inl, inr, ⊎-elim, _↔_}
 use mathlib.Core.Bool.{Bool, true, false, cond, not}
 use mathlib.Core.List.{List, _++_}
-use Prim.Native.Nat.{ℕ, _^_, _≤_, _<_}
+use Prim.Native.Nat.{ℕ, _+_, _*_, _^_, _≤_, _<_}
 use native.Mathlib.Omega.{arith}
-use lib.ListN.{length, drop}
-use borrow.Author.Tests.{not-false}
+use lib.Dec.{eqb, ltb}
+use lib.Count.{ones, onesIn}
+use lib.ListN.{length, drop, replicate}
+use borrow.Author.Tests.{not-true, not-false, eqb-true, eq-eqb, ltb-true, ltb-false}
 use Rattle.rach.specs.Identity.{typeOf, valueOf, widthOf, encodable}
 use Rattle.rach.specs.declared.MobileIdentity.{MobileIdentity}
-use Rattle.rach.proofs.Laws.{in-range, range-in}
+use Rattle.rach.proofs.Laws.{in-range, range-in, both}
+use Rattle.spach.specs.declared.Channel.the-variants.{Arch}
 use Rattle.spach.specs.Refusal.{Outcome, gives, refuses}
 use Rattle.spach.proofs.Outcomes.{passed}
 use Rattle.arq.specs.declared.ArqFrame.{ArqFrame}
 use Rattle.arq.specs.Decode.{decodeOf}
+use Rattle.arq.proofs.Theorems.{cut-holds, cut-least}
 use Rattle.receiver.specs.declared.ArqReassembler.{ArqReassembler}
 use Rattle.receiver.specs.declared.ArqStatus.{ArqStatus}
 use Rattle.receiver.specs.declared.SingleMessage.{SingleMessage}
@@ -25,10 +29,10 @@ use Rattle.receiver.specs.declared.Request.the-variants as requests
 use Rattle.receiver.specs.declared.Reception.{Reception}
 use Rattle.receiver.specs.declared.Reception.the-variants.{Ignored, Accepted}
 use Rattle.receiver.specs.Map.{withBit}
-use Rattle.receiver.specs.Receiver.{Out, fresh, newOf, begun, stored, statusOf, statusAnswer, requestOf, putSlot, assembled, finish, pushFrame, pushOf, pushDecoded, resetOf, completeOf}
+use Rattle.receiver.specs.Receiver.{Out, fresh, newOf, needed, replacedBy, stored, statusOf, statusAnswer, requestOf, putSlot, due, assembled, finish, pushFrame, pushOf, pushDecoded, resetOf, completeOf}
 use Rattle.receiver.specs.Demand3.{BeginFor}
 use Rattle.receiver.proofs.Heard.{decode-numbers}
-use Rattle.receiver.proofs.Ways.{by-bool, true-false, pick-true, pick-false, Unheeded, Past, Filler, Conflict, Taken, own-way, unheeded-way, past-way, filler-way, conflict-way, taken-way, frame-ways, finish-ways, short-way, decode-way, push-ways}
+use Rattle.receiver.proofs.PushCases.{by-bool, true-false, both-true, pick-true, pick-false, roomFor, room-for, Unheeded, Past, Filler, Conflict, Taken, own-way, unheeded-way, past-way, filler-way, conflict-way, taken-way, frame-ways, finish-ways, short-way, decode-way, push-ways}
 
 gives-refuses : {A : Type 0} {x : A} {n : ℕ} → _≡_ {A = Outcome A} (gives x) (refuses n) → ⊥
 gives-refuses e = let z : _≡_ {A = ℕ} 0 1 = cc in omega arith
@@ -67,6 +71,12 @@ status-held s {e} {w} = go (s .transaction .held)
         (refl, sym (ap (λ (t : ArqStatus). t .«received_frames») z))
     go false q = let z : _≡_ {A = ℕ} 0 1 = cc in absurd (omega arith)
 
+-- it tells echo and map of every transaction that is held
+pub status-exactly : (s : ArqReassembler) → s .transaction .held ≡ true
+    → statusAnswer s ≡ statuses.Status (record { «partial_echo» = s .transaction .«partial_echo»; «received_frames» = s .«received_frames» })
+unfolding statusAnswer
+status-exactly s e = pick-true _ _ e
+
 -- and nothing where nothing is held
 pub status-none : (s : ArqReassembler) → s .transaction .held ≡ false → statusAnswer s ≡ statuses.Nothing
 unfolding statusAnswer
@@ -101,11 +111,11 @@ module _ (s : ArqReassembler) (f : ArqFrame) (b : List ℕ) where
   unaccepted-ways : (x : Outcome Reception) → Unaccepted x → (C : Type 0) → (gives Ignored ≡ x → Unheeded s f → C) → (refuses 12 ≡ x → Past s f → C)
       → (refuses 7 ≡ x → Filler s f → C) → (refuses 14 ≡ x → Conflict s f → C) → pushFrame s b f .outcome ≡ x → C
   unaccepted-ways x un C u p r c =
-      frame-ways s f b (λ o. o .outcome ≡ x → C) (λ y e. absurd (finish-not x un f (begun s f) b e)) (λ y e. u e y) (λ y e. p e y) (λ y e. r e y) (λ y e. c e y)
+      frame-ways s f b (λ o. o .outcome ≡ x → C) (λ y e. absurd (finish-not x un f (replacedBy s f) b e)) (λ y e. u e y) (λ y e. p e y) (λ y e. r e y) (λ y e. c e y)
       (λ y e. absurd (finish-not x un f (stored s f) b e))
 
   -- what comes of an acceptance
-  accepted-ways : (g : Delivery) (r : Request) (P : Out → Type 0) → (BeginFor (s .identity) f → P (finish f (begun s f) b)) → (Taken s f → P (finish f (stored s f) b))
+  accepted-ways : (g : Delivery) (r : Request) (P : Out → Type 0) → (BeginFor (s .identity) f → P (finish f (replacedBy s f) b)) → (Taken s f → P (finish f (stored s f) b))
       → pushFrame s b f .outcome ≡ gives (Accepted g r) → P (pushFrame s b f)
   accepted-ways g r P o t =
       frame-ways s f b (λ x. x .outcome ≡ gives (Accepted g r) → P x) (λ y e. o y) (λ y e. absurd (accepted-ignored (sym e))) (λ y e. absurd (gives-refuses (sym e)))
@@ -153,7 +163,7 @@ module _ (s : ArqReassembler) (f : ArqFrame) (b : List ℕ) where
   pub accepted-exactly : ((g : Delivery) × (r : Request) × (pushFrame s b f .outcome ≡ gives (Accepted g r))) ↔ (BeginFor (s .identity) f ⊎ Taken s f)
   accepted-exactly = (
     λ e. accepted-ways (e .0) (e .1) (λ o. BeginFor (s .identity) f ⊎ Taken s f) inl inr (e .2),
-    ⊎-elim (λ x. rw (own-way s f b x) (given (begun s f))) (λ x. rw (taken-way s f b x) (given (stored s f))),
+    ⊎-elim (λ x. rw (own-way s f b x) (given (replacedBy s f))) (λ x. rw (taken-way s f b x) (given (stored s f))),
   )
     where
       given : (t : ArqReassembler) → (g : Delivery) × (r : Request) × (finish f t b .outcome ≡ gives (Accepted g r))
@@ -185,7 +195,13 @@ module _ (s : ArqReassembler) (f : ArqFrame) (b : List ℕ) where
         «message_octets» = f .«message_octets»;
         «begin_data» = f .«begin_data»;
       }
-  begin-sets c = rw (own-way s f b c) (finish-ways f (begun s f) b (λ o. o .receiver .transaction ≡ begun s f .transaction) (λ d. refl) (λ d. refl))
+  begin-sets c = rw (own-way s f b c) (finish-ways f (replacedBy s f) b (λ o. o .receiver .transaction ≡ replacedBy s f .transaction) (λ d. refl) (λ d. refl))
+
+  -- no slot and no number of what was held stays
+  pub begin-clears : BeginFor (s .identity) f → (pushFrame s b f .receiver .slots ≡ replicate 260 0) × (pushFrame s b f .receiver .«received_frames» ≡ 0)
+  begin-clears c =
+      rw (own-way s f b c)
+      (finish-ways f (replacedBy s f) b (λ o. (o .receiver .slots ≡ replicate 260 0) × (o .receiver .«received_frames» ≡ 0)) (λ d. (refl, refl)) (λ d. (refl, refl)))
 
   -- and every other frame leaves it
   pub others-keep : (BeginFor (s .identity) f → ⊥) → pushFrame s b f .receiver .transaction ≡ s .transaction
@@ -196,14 +212,14 @@ module _ (s : ArqReassembler) (f : ArqFrame) (b : List ℕ) where
   -- the echo that is held afterwards is the accepted frame's own
   pub echo-kept : (g : Delivery) (r : Request) → pushFrame s b f .outcome ≡ gives (Accepted g r) → pushFrame s b f .receiver .transaction .«partial_echo» ≡ f .header .«partial_echo»
   echo-kept g r =
-      accepted-ways g r P (λ c. finish-ways f (begun s f) b P (λ d. refl) (λ d. refl)) (λ c. finish-ways f (stored s f) b P (λ d. sym (c .mine .echo)) (λ d. sym (c .mine .echo)))
+      accepted-ways g r P (λ c. finish-ways f (replacedBy s f) b P (λ d. refl) (λ d. refl)) (λ c. finish-ways f (stored s f) b P (λ d. sym (c .mine .echo)) (λ d. sym (c .mine .echo)))
     where
       P : Out → Type 0
       P o = o .receiver .transaction .«partial_echo» ≡ f .header .«partial_echo»
 
   -- and a transaction is held
   pub accepted-held : (g : Delivery) (r : Request) → pushFrame s b f .outcome ≡ gives (Accepted g r) → pushFrame s b f .receiver .transaction .held ≡ true
-  accepted-held g r = accepted-ways g r P (λ c. finish-ways f (begun s f) b P (λ d. refl) (λ d. refl)) (λ c. finish-ways f (stored s f) b P (λ d. c .mine .held) (λ d. c .mine .held))
+  accepted-held g r = accepted-ways g r P (λ c. finish-ways f (replacedBy s f) b P (λ d. refl) (λ d. refl)) (λ c. finish-ways f (stored s f) b P (λ d. c .mine .held) (λ d. c .mine .held))
     where
       P : Out → Type 0
       P o = o .receiver .transaction .held ≡ true
@@ -212,14 +228,18 @@ module _ (s : ArqReassembler) (f : ArqFrame) (b : List ℕ) where
 
   -- "Polled frames answer a status of echo and map": those of the state that the frame leaves, with the frame's own response mode
   told : (g : Delivery) (r : Request) → pushFrame s b f .outcome ≡ gives (Accepted g r) → r ≡ requestOf f (pushFrame s b f .receiver)
-  told g r e = accepted-ways g r (λ o. o .outcome ≡ gives (Accepted g r) → r ≡ requestOf f (o .receiver)) (λ c. after (begun s f)) (λ c. after (stored s f)) e e
+  told g r e = accepted-ways g r (λ o. o .outcome ≡ gives (Accepted g r) → r ≡ requestOf f (o .receiver)) (λ c. after (replacedBy s f)) (λ c. after (stored s f)) e e
     where
       after : (t : ArqReassembler) → finish f t b .outcome ≡ gives (Accepted g r) → r ≡ requestOf f (finish f t b .receiver)
       after t = finish-ways f t b (λ o. o .outcome ≡ gives (Accepted g r) → r ≡ requestOf f (o .receiver)) (λ d e. (cc)) (λ d e. (cc))
 
-  -- so a polled one is told its echo and map
+  -- so a polled one is told its echo and the map that it leaves, complete or not
   pub tells : (g : Delivery) (r : Request) → pushFrame s b f .outcome ≡ gives (Accepted g r) → f .header .polling ≡ true
-      → r ≡ requests.Status (record { status = statusOf (pushFrame s b f .receiver); «response_mode» = f .header .«response_mode» })
+      → r
+      ≡ requests.Status (record {
+        status = record { «partial_echo» = pushFrame s b f .receiver .transaction .«partial_echo»; «received_frames» = pushFrame s b f .receiver .«received_frames» };
+        «response_mode» = f .header .«response_mode»;
+      })
   tells g r e p = told g r e ∙ pick-true _ _ p
 
   -- and one that is not polled is told nothing
@@ -258,7 +278,7 @@ module _ (d : SingleMessage) (r : Request) where
 
   -- so is every message, of a frame that was heard
   pub delivers : (s : ArqReassembler) (f : ArqFrame) (b : List ℕ) → GivesMessage d r (pushFrame s b f) → DeliveryOf b d (pushFrame s b f)
-  delivers s f b e = accepted-ways s f b _ r (λ o. GivesMessage d r o → DeliveryOf b d o) (λ c. finish-delivers f (begun s f) b) (λ c. finish-delivers f (stored s f) b) e e
+  delivers s f b e = accepted-ways s f b _ r (λ o. GivesMessage d r o → DeliveryOf b d o) (λ c. finish-delivers f (replacedBy s f) b) (λ c. finish-delivers f (stored s f) b) e e
 
   -- and of a push
   pub push-delivers : (s : ArqReassembler) (xs b : List ℕ) → GivesMessage d r (pushOf s xs b) → DeliveryOf b d (pushOf s xs b)
@@ -290,11 +310,17 @@ module _ (s : ArqReassembler) (xs b : List ℕ) where
   pub as-decoded : 255 ≤ length b → pushOf s xs b ≡ pushDecoded s b (decodeOf xs)
   as-decoded = decode-way s xs b
 
+  pub as-heard : 255 ≤ length b → (f : ArqFrame) → decodeOf xs ≡ gives f → pushOf s xs b ≡ pushFrame s b f
+  as-heard l f e = decode-way s xs b l ∙ ap (pushDecoded s b) e
+
+  pub as-refused : 255 ≤ length b → (n : ℕ) → decodeOf xs ≡ refuses n → pushOf s xs b ≡ record { outcome = refuses n; receiver = s; buffer = b }
+  as-refused l n e = decode-way s xs b l ∙ ap (pushDecoded s b) e
+
   -- no acceptance: state and buffer are as they were
   unaccepted-leaves : (x : Outcome Reception) → Unaccepted x → pushOf s xs b .outcome ≡ x → (pushOf s xs b .receiver ≡ s) × (pushOf s xs b .buffer ≡ b)
   unaccepted-leaves x un =
       push-ways s xs b P (λ l e. (refl, refl)) (λ k q e. (refl, refl))
-      (λ f q. frame-ways s f b P (λ c e. absurd (finish-not x un f (begun s f) b e)) (λ c e. (refl, refl)) (λ c e. (refl, refl)) (λ c e. (refl, refl)) (λ c e. (refl, refl))
+      (λ f q. frame-ways s f b P (λ c e. absurd (finish-not x un f (replacedBy s f) b e)) (λ c e. (refl, refl)) (λ c e. (refl, refl)) (λ c e. (refl, refl)) (λ c e. (refl, refl))
       (λ c e. absurd (finish-not x un f (stored s f) b e)))
     where
       P : Out → Type 0
@@ -312,7 +338,7 @@ module _ (s : ArqReassembler) (xs b : List ℕ) where
   pub no-message-leaves : (r : Request) → pushOf s xs b .outcome ≡ gives (Accepted deliveries.Nothing r) → pushOf s xs b .buffer ≡ b
   no-message-leaves r =
       push-ways s xs b P (λ l e. refl) (λ k q e. refl)
-      (λ f q. frame-ways s f b P (λ c. after f (begun s f)) (λ c e. refl) (λ c e. refl) (λ c e. refl) (λ c e. refl) (λ c. after f (stored s f)))
+      (λ f q. frame-ways s f b P (λ c. after f (replacedBy s f)) (λ c e. refl) (λ c e. refl) (λ c e. refl) (λ c e. refl) (λ c. after f (stored s f)))
     where
       P : Out → Type 0
       P o = o .outcome ≡ gives (Accepted deliveries.Nothing r) → o .buffer ≡ b
@@ -324,11 +350,62 @@ module _ (s : ArqReassembler) (xs b : List ℕ) where
   pub identity-kept : pushOf s xs b .receiver .identity ≡ s .identity
   identity-kept =
       push-ways s xs b P (λ l. refl) (λ k q. refl)
-      (λ f q. frame-ways s f b P (λ c. finish-ways f (begun s f) b P (λ d. refl) (λ d. refl)) (λ c. refl) (λ c. refl) (λ c. refl) (λ c. refl)
+      (λ f q. frame-ways s f b P (λ c. finish-ways f (replacedBy s f) b P (λ d. refl) (λ d. refl)) (λ c. refl) (λ c. refl) (λ c. refl) (λ c. refl)
       (λ c. finish-ways f (stored s f) b P (λ d. refl) (λ d. refl)))
     where
       P : Out → Type 0
       P o = o .receiver .identity ≡ s .identity
+
+-- ---- the numbers needed
+
+-- those below the least number of Continues that with the Begin have room for the message
+pub needed-exactly : (s : ArqReassembler) → let n = 8 * s .transaction .«message_octets» in
+    (n ≤ roomFor (s .identity) + 79 * needed s) × ((k : ℕ) → n ≤ roomFor (s .identity) + 79 * k → needed s ≤ k)
+needed-exactly s =
+    let e = room-for (s .identity) in (
+      omega (arith, e, cut-holds (s .identity) (s .transaction .«message_octets»)),
+      λ k h. ⊎-elim (λ l. absurd (omega (arith, e, h, cut-least (s .identity) (s .transaction .«message_octets») k (ltb-true k (needed s) l)))) (λ l. ltb-false k (needed s) l) (by-bool (ltb k (needed s))),
+    )
+
+-- ---- when a message is delivered
+
+-- an answer gives a message
+abbrev pub Given : Out → Type 0
+Given o = (d : SingleMessage) × (r : Request) × GivesMessage d r o
+
+module _ (f : ArqFrame) (t : ArqReassembler) (b : List ℕ) where
+  abbrev All : Type 0
+  All = (t .delivered ≡ false) × (ones (t .«received_frames») ≡ needed t)
+
+  due-all : due t ≡ true → All
+  due-all e = let p = both (not (t .delivered)) (eqb (ones (t .«received_frames»)) (needed t)) e in (not-true _ (p .0), eqb-true _ _ (p .1))
+
+  all-due : All → due t ≡ true
+  all-due p = both-true (ap not (p .0)) (eq-eqb (ones (t .«received_frames»)) (needed t) (p .1))
+
+  finish-exactly : Given (finish f t b) ↔ All
+  finish-exactly =
+      finish-ways f t b (λ o. Given o ↔ All) (λ d. ((λ g. due-all d), λ p. (_, _, refl))) (λ d. ((λ g. absurd (nothing-message (g .2))), λ p. absurd (true-false (all-due p) d)))
+
+-- by a Continue that is taken exactly if none was delivered yet, and with its number there are as many as are needed
+pub delivers-exactly : (s : ArqReassembler) (f : ArqFrame) (b : List ℕ) → Taken s f
+    → Given (pushFrame s b f) ↔ ((s .delivered ≡ false) × (ones (withBit (s .«received_frames») (f .«frame_number»)) ≡ needed s))
+delivers-exactly s f b c = rw (taken-way s f b c) (finish-exactly f (stored s f) b)
+
+no-ones : ones 0 ≡ 0
+unfolding ones onesIn
+no-ones = refl
+
+-- by a Begin for the identity exactly if it has room for the whole message
+pub begin-delivers-exactly : (s : ArqReassembler) (f : ArqFrame) (b : List ℕ) → BeginFor (s .identity) f
+    → Given (pushFrame s b f) ↔ (8 * f .«message_octets» ≤ roomFor (s .identity))
+begin-delivers-exactly s f b c =
+    let t : ArqReassembler = replacedBy s f in
+    let n = needed-exactly t in
+    rw (own-way s f b c) (
+      (λ g. omega (arith, n .0, no-ones, finish-exactly f t b .0 g .1)),
+      λ l. let m : needed t ≤ 0 = n .1 0 (omega arith) in finish-exactly f t b .1 (refl, omega (arith, no-ones, m)),
+    )
 
 -- ---- `reset` and `complete`
 
@@ -337,6 +414,29 @@ pub resets : (s : ArqReassembler) → encodable (s .identity) ≡ true → newOf
 unfolding newOf
 resets s e = rw e
 
+-- and nothing else: by its fields
+pub resets-exactly : (s : ArqReassembler)
+    → resetOf s
+    ≡ record {
+      identity = s .identity;
+      transaction = record {
+        held = false;
+        channel = Arch;
+        flags = record { «pch_continuation» = false; «bcch_change» = false; «paging_frame_modifier» = false; «reservation_response» = false };
+        «partial_echo» = 0;
+        «message_octets» = 0;
+        «begin_data» = replicate 7 0;
+      };
+      slots = replicate 260 0;
+      «received_frames» = 0;
+      delivered = false;
+    }
+resets-exactly s = refl
+
+-- `complete` exactly if a transaction is held and its message was delivered
+pub complete-exactly : (s : ArqReassembler) → (completeOf s ≡ true) ↔ ((s .transaction .held ≡ true) × (s .delivered ≡ true))
+complete-exactly s = (both (s .transaction .held) (s .delivered), λ p. both-true (p .0) (p .1))
+
 -- after a push that delivers, the transaction is complete
 pub complete-then : (d : SingleMessage) (r : Request) (s : ArqReassembler) (f : ArqFrame) (b : List ℕ) → GivesMessage d r (pushFrame s b f) → completeOf (pushFrame s b f .receiver) ≡ true
 complete-then d r s f b e = rw (accepted-held s f b _ r e, delivers d r s f b e .marked)
@@ -344,7 +444,7 @@ complete-then d r s f b e = rw (accepted-held s f b _ r e, delivers d r s f b e 
 -- and after a Begin that does not deliver, it is not
 pub complete-not : (r : Request) (s : ArqReassembler) (f : ArqFrame) (b : List ℕ) → BeginFor (s .identity) f → pushFrame s b f .outcome ≡ gives (Accepted deliveries.Nothing r)
     → completeOf (pushFrame s b f .receiver) ≡ false
-complete-not r s f b c = rw (own-way s f b c) (finish-ways f (begun s f) b P (λ d e. absurd (nothing-message (sym e))) (λ d e. refl))
+complete-not r s f b c = rw (own-way s f b c) (finish-ways f (replacedBy s f) b P (λ d e. absurd (nothing-message (sym e))) (λ d e. refl))
   where
     P : Out → Type 0
     P o = o .outcome ≡ gives (Accepted deliveries.Nothing r) → completeOf (o .receiver) ≡ false

@@ -16,7 +16,8 @@ use Rattle.rach.specs.declared.MobileIdentity.the-variants.{Tmsi20}
 use Rattle.spach.specs.declared.SpachError.{SpachError}
 use Rattle.spach.specs.declared.Verdict.{Verdict}
 use Rattle.spach.specs.declared.Verdict.the-variants as verdicts
-use Rattle.spach.specs.Refusal.{gives, refuses, refuse, numberOf, verdictOf, answered}
+use Rattle.spach.specs.Refusal.{gives, refuses, refuse, numberOf, verdictOf}
+use Rattle.spach.specs.Answered.{answered}
 use Rattle.spach.specs.Identity.{checkIdentity}
 use Rattle.spach.proofs.Outcomes.{answered-gives, answered-refuses}
 use Rattle.arq.specs.declared.FrameKind.{FrameKind}
@@ -31,7 +32,7 @@ use Rattle.receiver.specs.declared.Delivery.the-variants as deliveries
 use Rattle.receiver.specs.declared.Request.{Request}
 use Rattle.receiver.specs.declared.Reception.the-variants.{Accepted}
 use Rattle.receiver.specs.Map.{bitOf}
-use Rattle.receiver.specs.Receiver.{Out, fresh, newOf, blankReceiver, needed, slotAt, begun, stored, marked, due, requestOf, messageOf, assembled, refusal, ignored, finish, ours, startOf, sameOctets, pushContinue, pushFrame, pushDecoded, pushOf}
+use Rattle.receiver.specs.Receiver.{Out, fresh, newOf, blankReceiver, needed, slotAt, replacedBy, stored, marked, due, requestOf, messageOf, assembled, refusal, ignored, finish, ours, firstBit, sameOctets, pushContinue, pushFrame, pushDecoded, pushOf}
 
 -- `1 << k`, in 32 bits
 pub bit-shl : (k : ℕ) → k < 32 → (1 * 2 ^ k) % 2 ^ 32 ≡ 2 ^ k
@@ -73,7 +74,7 @@ module _ (s : ArqReassembler) (b : List ℕ) (f : ArqFrame) {n : ℕ} {r : Out} 
   unfolding pushContinue
   continue-number h er = rw (← en, le-ltb (f .«frame_number») n h) er
 
-  module _ (h : f .«frame_number» < n) {x : Bool} (ex : x ≡ anySet (drop (8 * s .transaction .«message_octets» - startOf s (f .«frame_number»)) (continueData f))) where
+  module _ (h : f .«frame_number» < n) {x : Bool} (ex : x ≡ anySet (drop (8 * s .transaction .«message_octets» - firstBit s (f .«frame_number»)) (continueData f))) where
     pub continue-filler : x ≡ true → r ≡ refusal 7 s b → r ≡ pushContinue s b f
     unfolding pushContinue
     continue-filler k er = rw (← en, lt-ltb (f .«frame_number») n h, ← ex, k) er
@@ -89,15 +90,15 @@ module _ (s : ArqReassembler) (b : List ℕ) (f : ArqFrame) {n : ℕ} {r : Out} 
 
 -- a frame by its kind, and whose it is
 module _ (s : ArqReassembler) (b : List ℕ) (f : ArqFrame) {r : Out} where
-  kind-way : (k : FrameKind) → f .kind ≡ k → {o : Out} → byKind k (cond (same (f .identity) (s .identity)) (finish f (begun s f) b) (ignored s b)) (cond (ours s f) (pushContinue s b f) (ignored s b)) ≡ o
+  kind-way : (k : FrameKind) → f .kind ≡ k → {o : Out} → byKind k (cond (same (f .identity) (s .identity)) (finish f (replacedBy s f) b) (ignored s b)) (cond (ours s f) (pushContinue s b f) (ignored s b)) ≡ o
       → r ≡ o → r ≡ pushFrame s b f
   unfolding pushFrame
-  kind-way k ek eo er = er ∙ sym eo ∙ ap (λ z. byKind z (cond (same (f .identity) (s .identity)) (finish f (begun s f) b) (ignored s b)) (cond (ours s f) (pushContinue s b f) (ignored s b))) (sym ek)
+  kind-way k ek eo er = er ∙ sym eo ∙ ap (λ z. byKind z (cond (same (f .identity) (s .identity)) (finish f (replacedBy s f) b) (ignored s b)) (cond (ours s f) (pushContinue s b f) (ignored s b))) (sym ek)
 
   pub begin-foreign : {x : Bool} → f .kind ≡ Begin → x ≡ same (f .identity) (s .identity) → x ≡ false → r ≡ ignored s b → r ≡ pushFrame s b f
   begin-foreign ek ex h er = kind-way Begin ek (rw (← ex, h)) er
 
-  pub begin-own : {x : Bool} {t : ArqReassembler} → f .kind ≡ Begin → x ≡ same (f .identity) (s .identity) → x ≡ true → t ≡ begun s f → r ≡ finish f t b → r ≡ pushFrame s b f
+  pub begin-own : {x : Bool} {t : ArqReassembler} → f .kind ≡ Begin → x ≡ same (f .identity) (s .identity) → x ≡ true → t ≡ replacedBy s f → r ≡ finish f t b → r ≡ pushFrame s b f
   begin-own ek ex h et er = kind-way Begin ek (rw (← ex, h)) (er ∙ ap (λ z. finish f z b) et)
 
   pub continue-foreign : {x : Bool} → f .kind ≡ Continue → x ≡ ours s f → x ≡ false → r ≡ ignored s b → r ≡ pushFrame s b f

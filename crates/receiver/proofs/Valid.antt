@@ -25,13 +25,13 @@ use Rattle.arq.proofs.Cuts.{count-most}
 use Rattle.receiver.specs.declared.ArqReassembler.{ArqReassembler}
 use Rattle.receiver.specs.declared.Reception.{Reception}
 use Rattle.receiver.specs.Map.{In, withBit}
-use Rattle.receiver.specs.Receiver.{Out, fresh, newOf, needed, begun, stored, marked, due, finish, pushFrame, pushOf, resetOf, statusAnswer}
+use Rattle.receiver.specs.Receiver.{Out, fresh, newOf, needed, replacedBy, stored, marked, due, finish, pushFrame, pushOf, resetOf, statusAnswer}
 use Rattle.receiver.specs.Demand3.{Push, handed, runs}
 use Rattle.receiver.specs.Valid.{Valid}
 use Rattle.receiver.proofs.Maps.{in-kept, added-lt, ones-all, all-ones}
 use Rattle.receiver.proofs.Slots.{length-put, octets-put, octets-octets, octets-zeros}
 use Rattle.receiver.proofs.Heard.{Decoded, decoded}
-use Rattle.receiver.proofs.Ways.{by-bool, true-false, frame-ways, finish-ways, push-ways}
+use Rattle.receiver.proofs.PushCases.{by-bool, true-false, frame-ways, finish-ways, push-ways}
 
 -- ---- made
 
@@ -67,8 +67,8 @@ valid-reset s v = valid-fresh (s .identity) (v .identity)
 
 module _ (s : ArqReassembler) (v : Valid s) (f : ArqFrame) (d : Decoded f) where
   -- a decoded Begin
-  pub valid-begun : Valid (begun s f)
-  valid-begun =
+  pub valid-replaced : Valid (replacedBy s f)
+  valid-replaced =
       record {
         identity = v .identity;
         echo = d .echo;
@@ -124,11 +124,11 @@ valid-finish f s b held v = finish-ways f s b (λ o. Valid (o .receiver)) (λ e.
 
 -- every push keeps it, whatever its octets and buffer
 pub valid-push : (s : ArqReassembler) (xs b : List ℕ) → Valid s → Valid (pushOf s xs b .receiver)
-valid-push s xs b v = push-ways s xs b (λ o. Valid (o .receiver)) (λ l. v) (λ n e. v) (λ f e. heard f (decoded xs f e))
+valid-push s xs b v = push-ways s xs b (λ o. Valid (o .receiver)) (λ l. v) (λ n e. v) (λ f e. pushed f (decoded xs f e))
   where
-    heard : (f : ArqFrame) → Decoded f → Valid (pushFrame s b f .receiver)
-    heard f d =
-        frame-ways s f b (λ o. Valid (o .receiver)) (λ c. valid-finish f (begun s f) b refl (valid-begun s v f d)) (λ c. v) (λ c. v) (λ c. v) (λ c. v)
+    pushed : (f : ArqFrame) → Decoded f → Valid (pushFrame s b f .receiver)
+    pushed f d =
+        frame-ways s f b (λ o. Valid (o .receiver)) (λ c. valid-finish f (replacedBy s f) b refl (valid-replaced s v f d)) (λ c. v) (λ c. v) (λ c. v) (λ c. v)
         (λ c. valid-finish f (stored s f) b (c .mine .held) (valid-stored s v f d (c .mine .held) (c .low)))
 
 -- what holds of the state given and of the one returned holds of the one that goes on
@@ -161,7 +161,7 @@ done-fresh i h = absurd (true-false h refl)
 
 -- every push keeps it
 pub done-push : (s : ArqReassembler) (xs b : List ℕ) → Valid s → Done s → Done (pushOf s xs b .receiver)
-done-push s xs b v t = push-ways s xs b (λ o. Done (o .receiver)) (λ l. t) (λ n e. t) (λ f e. heard f)
+done-push s xs b v t = push-ways s xs b (λ o. Done (o .receiver)) (λ l. t) (λ n e. t) (λ f e. pushed f)
   where
     more : (f : ArqFrame) → s .transaction .held ≡ true → f .«frame_number» < needed s → s .delivered ≡ true → eqb (ones (withBit (s .«received_frames») (f .«frame_number»))) (needed s) ≡ true
     more f h l e =
@@ -170,7 +170,7 @@ done-push s xs b v t = push-ways s xs b (λ o. Done (o .receiver)) (λ l. t) (λ
         let all : (j : ℕ) → j < needed s → In j w = ones-all (needed s) w (v .low) (eqb-true (ones w) (needed s) (sym (t h) ∙ e)) in
         eq-eqb (ones (withBit w k)) (needed s) (all-ones (needed s) (withBit w k) (added-lt (needed s) w k (v .low) l) (λ j c. in-kept w k j (all j c)))
 
-    heard : (f : ArqFrame) → Done (pushFrame s b f .receiver)
-    heard f =
-        frame-ways s f b (λ o. Done (o .receiver)) (λ c. done-finish f (begun s f) b (λ e. absurd (true-false e refl))) (λ c. t) (λ c. t) (λ c. t) (λ c. t)
+    pushed : (f : ArqFrame) → Done (pushFrame s b f .receiver)
+    pushed f =
+        frame-ways s f b (λ o. Done (o .receiver)) (λ c. done-finish f (replacedBy s f) b (λ e. absurd (true-false e refl))) (λ c. t) (λ c. t) (λ c. t) (λ c. t)
         (λ c. done-finish f (stored s f) b (more f (c .mine .held) (c .low)))

@@ -27,9 +27,9 @@ use Rattle.receiver.specs.declared.StatusAnswer.the-variants.{Status}
 use Rattle.receiver.specs.Receiver.{Out, fresh, newOf, pushOf, pushDecoded, pushFrame, refusal, statusAnswer}
 use Rattle.receiver.specs.Demand3.{Push, frameIn, heard, heards, BeginFor, CutFrom, Such, HeardNo, Fitting, Delivers, Silent, handed, runs, Completes, At, Holds, Demand3}
 use Rattle.receiver.proofs.Heard.{Decoded, decoded, count-is}
-use Rattle.receiver.proofs.Ways.{by-bool, pick-true, pick-false, kinds-apart}
+use Rattle.receiver.proofs.PushCases.{by-bool, pick-true, pick-false, kinds-apart}
 use Rattle.receiver.proofs.Laws.{GivesMessage, DeliveryOf, push-delivers}
-use Rattle.receiver.proofs.Kept.{Opened, wanted, after, Inv, Stepped, Good, Begun, step, begin-step}
+use Rattle.receiver.proofs.Hearing.{Opened, wanted, after, Inv, Stepped, Good, Begun, step, begin-step}
 
 -- what the constructor makes
 pub made-fresh : (i : MobileIdentity) (s : ArqReassembler) → newOf i ≡ gives s → s ≡ fresh i
@@ -203,7 +203,7 @@ module _ {i : MobileIdentity} {m : List ℕ} {b : ArqFrame} {l : List Push} (fit
     quiet-both : Quiet before p → Both
     quiet-both q =
         record {
-          completing = λ w. absurd (⊎-elim (λ x. nil≢cons (sym (q .nothing) ∙ x .1)) (λ x. nil≢cons (sym (q .nothing) ∙ x .1)) w);
+          completing = λ w. absurd (⊎-elim (λ x. nil≢cons (sym (q .nothing) ∙ x .hears)) (λ x. nil≢cons (sym (q .nothing) ∙ x .hears)) w);
           others = λ w. quiet-silent before p q;
         }
 
@@ -227,11 +227,11 @@ module _ {i : MobileIdentity} {m : List ℕ} {b : ArqFrame} {l : List Push} (fit
         bg = rw w′ (begin-step (fits .octets) (subst Decoded is-b (x .decoded)) (fits .own) (fits .cut-from) (p .buffer))
 
         given : Comes → Delivers m (p .buffer) (push before p)
-        given (inl w) = bg .all (w .2)
-        given (inr w) = absurd (kinds-apart (fits .own .kind) (subst (λ (y : ArqFrame). Such i b y) (heard-one f (w .0) (x .one) (w .1) ∙ is-b) (w .2) .kind))
+        given (inl w) = bg .all (w .none-needed)
+        given (inr w) = absurd (kinds-apart (fits .own .kind) (subst (λ (y : ArqFrame). Such i b y) (heard-one f (w .frame) (x .one) (w .hears) ∙ is-b) (w .such) .kind))
 
         silent : (Comes → ⊥) → Silent (p .buffer) (push before p)
-        silent no-comp = bg .more (λ nz. no-comp (inl (z, rw is-b at (x .one), nz)))
+        silent no-comp = bg .more (λ nz. no-comp (inl (record { first = z; hears = rw is-b at (x .one); none-needed = nz })))
 
     -- a frame heard after the Begin
     later-both : (r : List ArqFrame) → heards a ≡ b ∷ r → Inv i m b (heards a) before → Hears before p → Both
@@ -252,20 +252,30 @@ module _ {i : MobileIdentity} {m : List ℕ} {b : ArqFrame} {l : List Push} (fit
         st = rw (x .pushed) (step (fits .octets) (fits .size) f (p .buffer) (x .decoded) v (good-rest f among))
 
         given : Comes → Delivers m (p .buffer) (push before p)
-        given (inl w) = absurd (nil≢cons (sym (w .0) ∙ z))
+        given (inl w) = absurd (nil≢cons (sym (w .first) ∙ z))
         given (inr w) =
-            let same : w .0 ≡ f = heard-one f (w .0) (x .one) (w .1) in
+            let same : w .frame ≡ f = heard-one f (w .frame) (x .one) (w .hears) in
             st .last (
-              subst (λ (y : ArqFrame). Such i b y) same (w .2),
-              subst (λ (y : ArqFrame). y .«frame_number» < wanted i m) same (w .3),
-              (λ j. w .4 (subst (λ (y : ArqFrame). HeardNo i b (heards a) (y .«frame_number»)) (sym same) (v .core .sound (f .«frame_number») j))),
-              (λ k u ne. v .core .whole k (w .5 k u (λ j. ne (j ∙ ap (λ (y : ArqFrame). y .«frame_number») same)))),
+              subst (λ (y : ArqFrame). Such i b y) same (w .such),
+              subst (λ (y : ArqFrame). y .«frame_number» < wanted i m) same (w .needed),
+              (λ j. w .missing (subst (λ (y : ArqFrame). HeardNo i b (heards a) (y .«frame_number»)) (sym same) (v .core .sound (f .«frame_number») j))),
+              (λ k u ne. v .core .whole k (w .last k u (λ j. ne (j ∙ ap (λ (y : ArqFrame). y .«frame_number») same)))),
             )
 
         silent : (Comes → ⊥) → Silent (p .buffer) (push before p)
         silent no-comp =
             st .other
-            (λ la. no-comp (inr (f, x .one, la .0, la .1, (λ y. la .2 (v .core .whole (f .«frame_number») y)), (λ k u ne. v .core .sound k (la .3 k u ne)))))
+            (λ la.
+            no-comp
+            (inr
+            (record {
+              frame = f;
+              hears = x .one;
+              such = la .0;
+              needed = la .1;
+              missing = λ y. la .2 (v .core .whole (f .«frame_number») y);
+              last = λ k u ne. v .core .sound k (la .3 k u ne);
+            })))
 
     each-push : Both
     each-push =
@@ -344,10 +354,10 @@ message-heard s a p d r g z = ⊎-elim quiet loud (view s p)
     loud x = some (heards a) (x .frame) (sym (rw (x .one) at (heards-append a (p ∷ []))) ∙ z)
 
 -- in a list as demand 3 has it, every message that is delivered has the Begin's channel and flags, and the receiver's identity
-pub delivers-as-begun : (i : MobileIdentity) (m : List ℕ) (b : ArqFrame) (s : ArqReassembler) (l : List Push) → newOf i ≡ gives s → Fitting i m b l
+pub delivers-as-replaced : (i : MobileIdentity) (m : List ℕ) (b : ArqFrame) (s : ArqReassembler) (l : List Push) → newOf i ≡ gives s → Fitting i m b l
     → (a : List Push) (p : Push) (c : List Push) → l ≡ a ++ p ∷ c → (d : SingleMessage) (r : Request) → GivesMessage d r (push (run s a) p)
     → (d .channel ≡ b .header .channel) × (d .flags ≡ b .header .flags) × (d .identity ≡ i)
-delivers-as-begun i m b s l made f a p c e d r g = go s (made-fresh i s made) g
+delivers-as-replaced i m b s l made f a p c e d r g = go s (made-fresh i s made) g
   where
     from-fresh : GivesMessage d r (push (run (fresh i) a) p) → (d .channel ≡ b .header .channel) × (d .flags ≡ b .header .flags) × (d .identity ≡ i)
     from-fresh x =

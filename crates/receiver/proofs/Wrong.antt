@@ -25,7 +25,7 @@ use Rattle.receiver.specs.Demand3.{Push, heard, heards, HeardNo, Claim, 
 use Rattle.receiver.proofs.Laws.{status-held}
 use Rattle.receiver.proofs.Maps.{none-in}
 use Rattle.receiver.proofs.Valid.{handed-either}
-use Rattle.receiver.proofs.Ways.{true-false}
+use Rattle.receiver.proofs.PushCases.{true-false}
 use Rattle.receiver.proofs.Instance.{receiver, text, plain, loud, c, b, before, last, final, pushes, rest, rest-before, hear, fine-all, holds-of}
 
 -- ---- the instance's last push, of any receiver
@@ -48,10 +48,10 @@ nought ts e = (
 
 -- so it completes nothing
 completes-not : Completes receiver b 3 sooner final → ⊥
-completes-not (inl w) = cons≢nil (sym (hear-sooner .0) ∙ w .0)
+completes-not (inl w) = cons≢nil (sym (hear-sooner .0) ∙ w .first)
 completes-not (inr w) =
-    let e : w .0 ≡ c loud 0 = head-eq-of-cons-eq (sym (w .1) ∙ hear-sooner .1) in
-    w .4 (subst (λ (f : ArqFrame). HeardNo receiver b (heards sooner) (f .«frame_number»)) (sym e) (nought (c plain 1 ∷ []) (hear-sooner .0)))
+    let e : w .frame ≡ c loud 0 = head-eq-of-cons-eq (sym (w .hears) ∙ hear-sooner .1) in
+    w .missing (subst (λ (f : ArqFrame). HeardNo receiver b (heards sooner) (f .«frame_number»)) (sym e) (nought (c plain 1 ∷ []) (hear-sooner .0)))
 
 module _ (push : ArqReassembler → List ℕ → List ℕ → Out) (claim : Claim newOf push statusAnswer) where
   at-end : At newOf push statusAnswer receiver text b 4 (fresh receiver) sooner final

@@ -103,13 +103,26 @@ pub record Fitting (i : MobileIdentity) (m : List ℕ) (b : ArqFrame) (l : List 
 
 -- ---- what a push delivers
 
--- "The push that completes the set (the Begin's if none is needed)": the push p after the pushes a hears the Begin and
--- none is needed, or it hears such a Continue with the last needed number that was missing
+-- "(the Begin's if none is needed)": the push p after the pushes a is the first to hear a frame, the Begin, and of the n numbers
+-- needed there is none
+pub record CompletesByBegin (b : ArqFrame) (n : ℕ) (a : List Push) (p : Push) : Type 0 where
+  pub first : heards a ≡ []
+  pub hears : heard p ≡ b ∷ []
+  pub none-needed : n ≡ 0
+
+-- it hears such a Continue with the last needed number that was missing: one of the n needed, not heard before, when all others
+-- were
+pub record CompletesByContinue (i : MobileIdentity) (b : ArqFrame) (n : ℕ) (a : List Push) (p : Push) : Type 0 where
+  pub frame : ArqFrame
+  pub hears : heard p ≡ frame ∷ []
+  pub such : Such i b frame
+  pub needed : frame .«frame_number» < n
+  pub missing : HeardNo i b (heards a) (frame .«frame_number») → ⊥
+  pub last : (k : ℕ) → k < n → (k ≡ frame .«frame_number» → ⊥) → HeardNo i b (heards a) k
+
+-- "The push that completes the set"
 abbrev pub Completes : MobileIdentity → ArqFrame → ℕ → List Push → Push → Type 0
-Completes i b n a p =
-    ((heards a ≡ []) × (heard p ≡ b ∷ []) × (n ≡ 0))
-    ⊎ ((f : ArqFrame) × (heard p ≡ f ∷ []) × Such i b f × (f .«frame_number» < n) × (HeardNo i b (heards a) (f .«frame_number») → ⊥)
-    × ((k : ℕ) → k < n → (k ≡ f .«frame_number» → ⊥) → HeardNo i b (heards a) k))
+Completes i b n a p = CompletesByBegin b n a p ⊎ CompletesByContinue i b n a p
 
 -- a push delivers if its answer gives a message: of this length, or none
 abbrev pub Delivered : ℕ → Outcome Reception → Type 0

@@ -15,7 +15,7 @@ use Rattle.spach.specs.declared.Channel.the-variants.{Arch}
 use Rattle.spach.specs.Refusal.{Outcome, gives, refuses, refuse, numberOf, verdictOf}
 use Rattle.spach.specs.Header.{usageOf}
 use Rattle.arq.specs.declared.ArqFrame.{ArqFrame}
-use Rattle.arq.specs.Frame.{room, continueData}
+use Rattle.arq.specs.Frame.{continueDataBits, room, continueData}
 use Rattle.arq.specs.Encode.{byKind}
 use Rattle.arq.specs.Decode.{decodeOf}
 use Rattle.arq.specs.Cut.{continues}
@@ -80,8 +80,8 @@ putSlot slots k d = paste slots (10 * k) d 10
 -- ---- accepted frames
 
 -- a Begin for its identity replaces everything
-abbrev pub begun : ArqReassembler → ArqFrame → ArqReassembler
-begun s f = record {
+abbrev pub replacedBy : ArqReassembler → ArqFrame → ArqReassembler
+replacedBy s f = record {
   identity = s .identity;
   transaction = record {
     held = true;
@@ -137,7 +137,7 @@ due s = not (s .delivered) && eqb (ones (s .«received_frames»)) (needed s)
 -- the data bits of n slots from slot k on
 unfoldable pub gathered : List ℕ → ℕ → ℕ → List Bool
 gathered slots k zero = []
-gathered slots k (suc n) = take 79 (bitsOf (slotAt slots k)) ++ gathered slots (suc k) n
+gathered slots k (suc n) = take continueDataBits (bitsOf (slotAt slots k)) ++ gathered slots (suc k) n
 
 -- the message: the Begin's data bits, then those of the slots
 unfoldable pub assembled : ArqReassembler → List ℕ
@@ -189,9 +189,9 @@ ours s f =
     && (eqb (usageOf (f .header .channel)) (usageOf (s .transaction .channel))
     && eqb (f .«identity_type») (typeOf (s .identity))))
 
--- where Continue k's data start in the message
-abbrev pub startOf : ArqReassembler → ℕ → ℕ
-startOf s k = min (8 * s .transaction .«message_octets») (room (s .identity)) + 79 * k
+-- where Continue k's data start in the message: behind the Begin's data bits (all of a message that fits) and those of the Continues before it
+abbrev pub firstBit : ArqReassembler → ℕ → ℕ
+firstBit s k = min (8 * s .transaction .«message_octets») (room (s .identity)) + continueDataBits * k
 
 -- the same octets
 abbrev pub sameOctets : List ℕ → List ℕ → Bool
@@ -205,7 +205,7 @@ unfoldable pub pushContinue : ArqReassembler → List ℕ → ArqFrame → Out
 pushContinue s b f =
     let k = f .«frame_number» in
     cond (not (ltb k (needed s))) (refusal 12 s b)
-    (cond (anySet (drop (8 * s .transaction .«message_octets» - startOf s k) (continueData f))) (refusal 7 s b)
+    (cond (anySet (drop (8 * s .transaction .«message_octets» - firstBit s k) (continueData f))) (refusal 7 s b)
     (cond (eqb (bitOf (s .«received_frames») k) 1 && not (sameOctets (slotAt (s .slots) k) (f .«continue_data»))) (refusal 14 s b)
     (finish f (stored s f) b)))
 
@@ -213,7 +213,7 @@ pushContinue s b f =
 unfoldable pub pushFrame : ArqReassembler → List ℕ → ArqFrame → Out
 pushFrame s b f =
     byKind (f .kind)
-    (cond (same (f .identity) (s .identity)) (finish f (begun s f) b) (ignored s b))
+    (cond (same (f .identity) (s .identity)) (finish f (replacedBy s f) b) (ignored s b))
     (cond (ours s f) (pushContinue s b f) (ignored s b))
 
 -- decode's refusals come before

@@ -1,8 +1,8 @@
 // ArqReassembler: frames of one transfer put together again.
 // Ported from link/spach/arq/receiver.rs (chrismoos/136-bts 7c60b63bf4, Apache-2.0) and changed: see NOTICE.
-pub mod message;
+mod message;
 pub mod push;
-pub mod slot;
+mod slot;
 pub mod state;
 
 use arq::ResponseMode;
@@ -12,7 +12,7 @@ use spach::HeaderFlags;
 use spach::SpachError;
 use spach::Verdict;
 ghost use mathlib.Core.Path.{_≡_};
-ghost use Rattle.spach.specs.Refusal.{answered};
+ghost use Rattle.spach.specs.Answered.{answered};
 ghost use Rattle.receiver.specs.Receiver.{newOf, blankReceiver, madeAnswer, resetOf, statusAnswer, completeOf, pushOf, pushed};
 
 // What a Begin opened: its header's channel, flags and echo, its octet count and its data. Without one nothing is held.

@@ -7,27 +7,28 @@ ghost use mathlib.Core.Path.{_≡_};
 ghost use mathlib.Core.List.{_++_};
 ghost use Prim.Native.Nat.{_-_, _*_, _≤_, _<_, min};
 ghost use lib.ListN.{length, take, drop};
-ghost use Rattle.field.specs.Bits.{bitsOf, splice, Packs};
+ghost use Rattle.field.specs.Bits.{bitsOf, splice};
+ghost use Rattle.field.specs.Spans.{Packs};
 ghost use Rattle.field.specs.Layout.{zeros};
-ghost use Rattle.receiver.specs.Receiver.{assembled, messageOf, needed, startOf};
+ghost use Rattle.receiver.specs.Receiver.{assembled, messageOf, needed, firstBit};
 
 // Where Continue k's data start in the message.
 pub fn start_of(s: ArqReassembler, k: usize) -> usize
     requires { ⌜ k ≤ 26 ⌝ }
-    ensures { λ r. ⌜ r ≡ startOf s k ⌝ }
+    ensures { λ r. ⌜ r ≡ firstBit s k ⌝ }
 {
     let identity = s.identity;
     let t = s.transaction;
-    arq::cut::least(
+    arq::cut::lesser(
         8 * (t.message_octets as usize),
         arq::check::room_of(identity),
     )
-        + 79 * k
+        + arq::CONTINUE_DATA_BITS * k
 }
 
 // The Begin's data bits at the front of 255 zero octets, as many as the message has.
 fn begin_part(s: ArqReassembler) -> [u8; 255]
-    ensures { λ r. ⌜ Packs r 255 (splice 0 (take (startOf s 0) (bitsOf (s .transaction .«begin_data»))) (zeros 2040)) ⌝ }
+    ensures { λ r. ⌜ Packs r 255 (splice 0 (take (firstBit s 0) (bitsOf (s .transaction .«begin_data»))) (zeros 2040)) ⌝ }
 {
     let t = s.transaction;
     let octets = t.begin_data;
@@ -40,12 +41,15 @@ fn begin_part(s: ArqReassembler) -> [u8; 255]
 // Slot k's data bits to their place, as many as the message has.
 fn put_part(m: &mut [u8], s: ArqReassembler, k: usize)
     requires { ⌜ (length (now m) ≡ 255) × (k < needed s) ⌝ }
-    ensures { λ _. ⌜ Packs (now (m .exit)) 255 (splice (startOf s k) (take (min 79 (8 * s .transaction .«message_octets» - startOf s k)) (drop (80 * k) (bitsOf (s .slots)))) (bitsOf (now (m .entry)))) ⌝ }
+    ensures { λ _. ⌜ Packs (now (m .exit)) 255 (splice (firstBit s k) (take (min 79 (8 * s .transaction .«message_octets» - firstBit s k)) (drop (80 * k) (bitsOf (s .slots)))) (bitsOf (now (m .entry)))) ⌝ }
 {
     let t = s.transaction;
     let slots = s.slots;
     let start = start_of(s, k);
-    let n = arq::cut::least(79, 8 * (t.message_octets as usize) - start);
+    let n = arq::cut::lesser(
+        arq::CONTINUE_DATA_BITS,
+        8 * (t.message_octets as usize) - start,
+    );
     field::copy_bits(m, start, &slots, 80 * k, n);
 }
 

@@ -22,7 +22,7 @@ ghost use Rattle.field.specs.Layout.{anySet};
 ghost use Rattle.spach.specs.Refusal.{numberOf, gives};
 ghost use Rattle.arq.specs.Frame.{continueData};
 ghost use Rattle.receiver.specs.Map.{bitOf};
-ghost use Rattle.receiver.specs.Receiver.{refusal, ignored, finish, ours, needed, startOf, slotAt, sameOctets, pushContinue, pushFrame, pushed};
+ghost use Rattle.receiver.specs.Receiver.{refusal, ignored, finish, ours, needed, firstBit, slotAt, sameOctets, pushContinue, pushFrame, pushed};
 
 // A refusal changes nothing.
 pub fn refused(s: ArqReassembler, error: SpachError) -> Pushed
@@ -94,11 +94,11 @@ fn is_ours(s: ArqReassembler, frame: ArqFrame) -> bool
 // Whether a data bit of Continue k is set past the message.
 fn filler_set(s: ArqReassembler, frame: ArqFrame, k: usize) -> bool
     requires { ⌜ k < needed s ⌝ }
-    ensures { λ r. ⌜ r ≡ anySet (drop (8 * s .transaction .«message_octets» - startOf s k) (continueData frame)) ⌝ }
+    ensures { λ r. ⌜ r ≡ anySet (drop (8 * s .transaction .«message_octets» - firstBit s k) (continueData frame)) ⌝ }
 {
     let t = s.transaction;
     let end = 8 * (t.message_octets as usize) - message::start_of(s, k);
-    arq::check::filler_set(&frame.continue_data, 0, 79, end)
+    arq::check::filler_set(&frame.continue_data, 0, arq::CONTINUE_DATA_BITS, end)
 }
 
 // Whether slot k is filled with other data.
@@ -150,6 +150,6 @@ pub fn push_frame(s: ArqReassembler, frame: ArqFrame, buffer: &mut [u8]) -> Push
     if !heard.equals(own) {
         return ignore(s);
     }
-    let begun = state::begun_by(s, frame);
+    let begun = state::replaced_by(s, frame);
     finish_with(frame, begun, buffer)
 }

@@ -12,7 +12,7 @@ use spach::Channel;
 use spach::HeaderFlags;
 ghost use mathlib.Core.Path.{_≡_};
 ghost use Prim.Native.Nat.{_≤_, _<_};
-ghost use Rattle.receiver.specs.Receiver.{nothingHeld, fresh, begun, stored, marked, needed, due, statusOf, requestOf};
+ghost use Rattle.receiver.specs.Receiver.{nothingHeld, fresh, replacedBy, stored, marked, needed, due, statusOf, requestOf};
 
 pub fn nothing_held() -> Transaction
     ensures { λ r. ⌜ r ≡ nothingHeld ⌝ }
@@ -47,8 +47,8 @@ pub fn fresh_receiver(identity: MobileIdentity) -> ArqReassembler
 }
 
 // A Begin replaces everything.
-pub fn begun_by(s: ArqReassembler, frame: ArqFrame) -> ArqReassembler
-    ensures { λ r. ⌜ r ≡ begun s frame ⌝ }
+pub fn replaced_by(s: ArqReassembler, frame: ArqFrame) -> ArqReassembler
+    ensures { λ r. ⌜ r ≡ replacedBy s frame ⌝ }
 {
     let identity = s.identity;
     let header = frame.header;

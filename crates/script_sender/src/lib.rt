@@ -146,7 +146,7 @@ fn put_first(answers: &mut [u8], to: usize, octets: &[u8], n: usize)
 }
 
 // The smaller of the two.
-fn least(a: usize, b: usize) -> usize
+fn lesser(a: usize, b: usize) -> usize
     ensures { λ r. ⌜ (r ≤ a) × (r ≤ b) ⌝ }
 {
     if a < b { a } else { b }
@@ -157,7 +157,7 @@ fn put_reply(answers: &mut [u8], to: usize, reply: Reply, most: usize) -> usize
     requires { ⌜ to + most ≤ length (now answers) ⌝ }
     ensures { λ r. ⌜ (r ≤ most) × (length (now (answers .exit)) ≡ length (now (answers .entry))) ⌝ }
 {
-    let n = least(least(reply.length, most), 136);
+    let n = lesser(lesser(reply.length, most), 136);
     let octets = reply.octets;
     put_first(answers, to, &octets, n);
     n

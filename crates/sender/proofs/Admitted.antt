@@ -29,7 +29,7 @@ use Rattle.transfer.specs.State.{View, Out, refusal, goesOn, withClock, short, 
 use Rattle.transfer.specs.Submitted.{isSelected, handedIn, submittedAt}
 use Rattle.transfer.proofs.Asked.{asked-found}
 use Rattle.transfer.proofs.Calls.{admitted-walked-kept}
-use Rattle.transfer.proofs.Kept.{neither, admitted-kept, ticked-kept}
+use Rattle.transfer.proofs.Invariant.{neither, admitted-kept, ticked-kept}
 use Rattle.sender.specs.declared.GrantAnswer.{GrantAnswer}
 use Rattle.sender.specs.declared.GrantAnswer.the-variants as grants
 use Rattle.sender.specs.declared.Selection.{Selection}

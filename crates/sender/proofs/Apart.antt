@@ -1,9 +1,13 @@
 -- The readings of the sender's answers tell any two answers apart. Assumes nothing.
 use mathlib.Core.Path.{_≡_, refl, ap}
+use mathlib.Core.Bool.{Bool}
+use mathlib.Core.Option.{Option}
 use Rattle.spach.specs.Refusal.{Outcome, gives, refuses}
 use Rattle.spach.proofs.Apart.{apart}
 use Rattle.transfer.specs.declared.Error.{Error}
-use Rattle.transfer.proofs.Apart.{refusedBy, refusal-number}
+use Rattle.transfer.specs.declared.Confirmation.the-variants.{NotFound, Found}
+use Rattle.transfer.proofs.Apart as read
+use Rattle.transfer.proofs.Apart.{refusedBy, refusal-number, confirmation-read}
 use Rattle.sender.specs.declared.Verdict.{Verdict}
 use Rattle.sender.specs.declared.Verdict.the-variants as verdicts
 use Rattle.sender.specs.declared.EnqueueAnswer.{EnqueueAnswer}
@@ -41,8 +45,11 @@ founds-apart = apart foundAnswer (answerOf founds.Found founds.Refused) undo
     undo (founds.Refused e) = ap founds.Refused (refusal-number e)
 
 pub confirmations-apart : (a b : ConfirmationAnswer) → confirmationAnswer a ≡ confirmationAnswer b → a ≡ b
-confirmations-apart = apart confirmationAnswer (answerOf confirmations.Confirmation confirmations.Refused) undo
+confirmations-apart = apart confirmationAnswer (answerOf back confirmations.Refused) undo
   where
-    undo : (a : ConfirmationAnswer) → answerOf confirmations.Confirmation confirmations.Refused (confirmationAnswer a) ≡ a
-    undo (confirmations.Confirmation c) = refl
+    back : Option Bool → ConfirmationAnswer
+    back o = confirmations.Confirmation (read.answerOf NotFound Found o)
+
+    undo : (a : ConfirmationAnswer) → answerOf back confirmations.Refused (confirmationAnswer a) ≡ a
+    undo (confirmations.Confirmation c) = ap confirmations.Confirmation (confirmation-read c)
     undo (confirmations.Refused e) = ap confirmations.Refused (refusal-number e)

@@ -13,7 +13,7 @@ use Rattle.transfer.specs.Lists.{any}
 use Rattle.transfer.specs.Numbers.{endingOf}
 use Rattle.transfer.specs.Queries.{canEnqueueOf, popFrom, popEventOf}
 use Rattle.transfer.specs.State.{Echoes, View, withEvents, says}
-use Rattle.transfer.proofs.Around.{free-now, none-free}
+use Rattle.transfer.proofs.EchoSearch.{free-now, none-free}
 
 -- ---- a free echo
 
@@ -57,11 +57,11 @@ module _ (v : View) (block now : ℕ) where
   unfolding canEnqueueOf
   too-soon h = rw (lt-leb (v .limits .«startup_until_block») block h) refl
 
-  module _ (begun : v .limits .«startup_until_block» ≤ block) where
+  module _ (usable : v .limits .«startup_until_block» ≤ block) where
     -- not with as many live as there may be
     pub too-many : v .limits .capacity ≤ length (v .transfers) → false ≡ canEnqueueOf v block now
     unfolding canEnqueueOf
-    too-many h = rw (le-leb (v .limits .«startup_until_block») block begun, le-ltb (length (v .transfers)) (v .limits .capacity) h) refl
+    too-many h = rw (le-leb (v .limits .«startup_until_block») block usable, le-ltb (length (v .transfers)) (v .limits .capacity) h) refl
 
     module _ (fewer : length (v .transfers) < v .limits .capacity) where
       -- not with as many events
@@ -69,7 +69,7 @@ module _ (v : View) (block now : ℕ) where
       unfolding canEnqueueOf
       too-full h =
           rw (
-            le-leb (v .limits .«startup_until_block») block begun,
+            le-leb (v .limits .«startup_until_block») block usable,
             lt-ltb (length (v .transfers)) (v .limits .capacity) fewer,
             le-ltb (length (v .events)) (v .limits .capacity) h,
           )
@@ -81,7 +81,7 @@ module _ (v : View) (block now : ℕ) where
         unfolding canEnqueueOf
         by-echo {b} e =
             rw (
-              le-leb (v .limits .«startup_until_block») block begun,
+              le-leb (v .limits .«startup_until_block») block usable,
               lt-ltb (length (v .transfers)) (v .limits .capacity) fewer,
               lt-ltb (length (v .events)) (v .limits .capacity) room,
               e,

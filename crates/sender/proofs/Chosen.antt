@@ -9,7 +9,8 @@ use Rattle.token.specs.Token.{numberAfter}
 use Rattle.spach.specs.declared.SpachError.{SpachError}
 use Rattle.spach.specs.declared.Verdict.{Verdict}
 use Rattle.spach.specs.declared.Verdict.the-variants.{Accepted, Refused}
-use Rattle.spach.specs.Refusal.{Outcome, gives, refuses, numberOf, verdictOf, answered}
+use Rattle.spach.specs.Refusal.{Outcome, gives, refuses, numberOf, verdictOf}
+use Rattle.spach.specs.Answered.{answered}
 use Rattle.spach.proofs.Outcomes.{answered-gives, answered-refuses}
 use Rattle.arq.specs.declared.PackedFrame.{PackedFrame}
 use Rattle.arq.specs.Frame.{blankPacked}

@@ -20,7 +20,7 @@ use Rattle.arq.specs.declared.CountAnswer.{CountAnswer}
 use Rattle.arq.specs.declared.CountAnswer.the-variants as counts
 use Rattle.arq.specs.Cut.{continues, countOf, countAnswer}
 use Rattle.arq.proofs.Theorems.{cut-most}
-use Rattle.receiver.proofs.Ways.{by-bool}
+use Rattle.receiver.proofs.PushCases.{by-bool}
 use Rattle.transfer.specs.declared.Error.{Error}
 use Rattle.transfer.specs.declared.FreeEcho.{FreeEcho}
 use Rattle.transfer.specs.declared.FreeEcho.the-variants.{Nothing, Echo}
@@ -37,9 +37,9 @@ use Rattle.transfer.specs.Transfer.{headerOf, begun}
 use Rattle.transfer.specs.Enqueue.{addressed, Grant, granted, allocated, grantOf, replaced, lowestFrom, lowestN, parcelOf, stored, accepts}
 use Rattle.transfer.specs.Invariant.{All, Sound}
 use Rattle.transfer.specs.Sought.{placeOf}
-use Rattle.transfer.proofs.Around.{free-now}
+use Rattle.transfer.proofs.EchoSearch.{free-now}
 use Rattle.transfer.proofs.Listed.{all-at, any-true, some-all, length-removed}
-use Rattle.transfer.proofs.Kept.{cancel-kept, hold-kept, seek-cases, lowest-free, count-gives, Passes, grant-passes}
+use Rattle.transfer.proofs.Invariant.{cancel-kept, hold-kept, seek-cases, lowest-free, count-gives, Passes, grant-passes}
 use Rattle.sender.specs.declared.Sender.{Sender}
 use Rattle.sender.specs.declared.Verdict.{Verdict}
 use Rattle.sender.specs.declared.Verdict.the-variants as verdicts
@@ -229,21 +229,21 @@ module _ (s : Sender) (r : Request) (message : List ℕ) (frames echo : ℕ) (h 
   -- deadline plus guard fits in 64 bits
   pub accept-until : r .«deadline_ms» + s .«echo_guard_ms» ≤ stop
   unfolding viewOf
-  accept-until = passes .fits
+  accept-until = passes .proper .fits
 
   -- its echo
   pub accept-echo : echo < 128
-  accept-echo = free-now (viewOf s .echoes) (h .echoes) (h .next-echo) (viewOf s .clock .«last_ms») (passes .echo) .0
+  accept-echo = free-now (viewOf s .echoes) (h .echoes) (h .next-echo) (viewOf s .clock .«last_ms») (passes .proper .echo) .0
 
   -- its octets
   pub accept-octets : length message ≤ 255
-  accept-octets = passes .most-octets
+  accept-octets = passes .proper .most-octets
 
   -- its frames
   pub accept-frames : frames ≤ 27
   accept-frames =
-      let m = cut-most (r .identity) (length message) (passes .most-octets) in
-      let f : frames ≡ 1 + continues (r .identity) (length message) = passes .frames in
+      let m = cut-most (r .identity) (length message) (passes .proper .most-octets) in
+      let f : frames ≡ 1 + continues (r .identity) (length message) = passes .proper .frames in
       omega arith
 
   -- the sender with its echo held
@@ -252,7 +252,7 @@ module _ (s : Sender) (r : Request) (message : List ℕ) (frames echo : ℕ) (h 
 
   -- keeps `Sound`
   pub holding-sound : Sound holding
-  holding-sound = hold-kept (viewOf s) echo (r .«deadline_ms» + s .«echo_guard_ms») (passes .echo) h
+  holding-sound = hold-kept (viewOf s) echo (r .«deadline_ms» + s .«echo_guard_ms») (passes .proper .echo) h
 
   -- and then without a transfer to its identity
   abbrev alone : View

@@ -2,7 +2,7 @@
 use mathlib.Core.Path.{_≡_, refl, sym, ap, _∙_}
 use mathlib.Core.Bool.{Bool, true, false, cond, not, _&&_}
 use mathlib.Core.List.{List}
-use mathlib.Core.Option.{none, some}
+use mathlib.Core.Option.{Option, none, some}
 use Prim.Native.Nat.{ℕ, zero, suc, _<_}
 use native.Mathlib.Omega.{arith}
 use lib.Dec.{eqb}
@@ -10,8 +10,6 @@ use borrow.Author.Tests.{not-true, not-false, eq-eqb, ne-eqb, eqb-true, eqb-fals
 use Rattle.receiver.specs.declared.ArqStatus.{ArqStatus}
 use Rattle.rach.proofs.Laws.{both}
 use Rattle.spach.specs.Refusal.{After}
-use Rattle.transfer.specs.declared.Confirmation.{Confirmation}
-use Rattle.transfer.specs.declared.Confirmation.the-variants.{NotFound, Found}
 use Rattle.transfer.specs.declared.FrameToken.{FrameToken}
 use Rattle.transfer.specs.declared.Place.{Place}
 use Rattle.transfer.specs.declared.PreparedFrame.{PreparedFrame}
@@ -128,31 +126,31 @@ walked-past v s = let a = s .live in let b = s .most-capacity in ap (walk v) (as
 
 module _ (v : View) (words : List ℕ) (t : FrameToken) {r : Place} (f : r ≡ placeOf (ofGeneration (t .generation)) (v .transfers)) where
   -- what is done with the transfer that was found
-  abbrev outstanding : ℕ → Transfer → After Confirmation View
-  outstanding place x = cond (isOutstanding t words x) (confirms v t place x) (says NotFound v)
+  abbrev outstanding : ℕ → Transfer → After (Option Bool) View
+  outstanding place x = cond (isOutstanding t words x) (confirms v t place x) (says none v)
 
   -- there is none
-  pub confirm-unfound : r .held ≡ false → says NotFound v ≡ transmittedAt v words t
+  pub confirm-unfound : r .held ≡ false → says none v ≡ transmittedAt v words t
   unfolding transmittedAt
-  confirm-unfound g = seek-none (ofGeneration (t .generation)) (v .transfers) (says NotFound v) outstanding f g
+  confirm-unfound g = seek-none (ofGeneration (t .generation)) (v .transfers) (says none v) outstanding f g
 
   module _ (g : r .held ≡ true) {d : Bool} (k : d ≡ isOutstanding t words (r .transfer)) where
     -- its frame is not in flight
-    pub confirm-lost : not d ≡ true → says NotFound v ≡ transmittedAt v words t
+    pub confirm-lost : not d ≡ true → says none v ≡ transmittedAt v words t
     unfolding transmittedAt
     confirm-lost w =
-        let q : says NotFound v ≡ outstanding (r .place) (r .transfer) = rw (sym k ∙ not-true d w) in
-        q ∙ seek-found (ofGeneration (t .generation)) (v .transfers) (says NotFound v) outstanding f g
+        let q : says none v ≡ outstanding (r .place) (r .transfer) = rw (sym k ∙ not-true d w) in
+        q ∙ seek-found (ofGeneration (t .generation)) (v .transfers) (says none v) outstanding f g
 
     -- it is confirmed
     pub confirm-found : (w : not d ≡ false) (completed : Bool) (y : Transfer) (u : View)
         → y ≡ confirmFrame (t .frame) (r .transfer) → completed ≡ allTransmitted y → u ≡ walked (putAt v (r .place) y)
-        → says (Found completed) u ≡ transmittedAt v words t
+        → says (some completed) u ≡ transmittedAt v words t
     unfolding transmittedAt
     confirm-found w completed y u a b c =
-        let p : says (Found completed) u ≡ confirms v t (r .place) (r .transfer) = rw (c, b, a) in
+        let p : says (some completed) u ≡ confirms v t (r .place) (r .transfer) = rw (c, b, a) in
         let q : confirms v t (r .place) (r .transfer) ≡ outstanding (r .place) (r .transfer) = rw (sym k ∙ not-false d w) in
-        p ∙ (q ∙ seek-found (ofGeneration (t .generation)) (v .transfers) (says NotFound v) outstanding f g)
+        p ∙ (q ∙ seek-found (ofGeneration (t .generation)) (v .transfers) (says none v) outstanding f g)
 
 -- ---- a status
 

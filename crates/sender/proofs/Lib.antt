@@ -6,6 +6,7 @@ pub mod Found
 pub mod Granted
 pub mod Handed
 pub mod Oldest
+pub mod Readings
 pub mod Shifts
 pub mod Slots
 pub mod Turns

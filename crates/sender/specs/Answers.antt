@@ -1,7 +1,8 @@
 -- The answers of the sender's calls, and what a call leaves, read as the definitions speak of it. Assumes nothing.
 use mathlib.Core.Bool.{Bool}
 use mathlib.Core.Option.{Option}
-use Rattle.spach.specs.Refusal.{Outcome, gives, refuses, andThen, answered, After}
+use Rattle.spach.specs.Refusal.{Outcome, gives, refuses, andThen, After}
+use Rattle.spach.specs.Answered.{answered}
 use Rattle.transfer.specs.declared.TransferToken.{TransferToken}
 use Rattle.transfer.specs.declared.PreparedFrame.{PreparedFrame}
 use Rattle.sender.specs.declared.Verdict.{Verdict}
@@ -16,7 +17,6 @@ use Rattle.sender.specs.declared.Prepared.{Prepared}
 use Rattle.sender.specs.declared.FoundAnswer.{FoundAnswer}
 use Rattle.sender.specs.declared.FoundAnswer.the-variants as founds
 use Rattle.sender.specs.declared.Sought.{Sought}
-use Rattle.transfer.specs.declared.Confirmation.{Confirmation}
 use Rattle.sender.specs.declared.ConfirmationAnswer.{ConfirmationAnswer}
 use Rattle.sender.specs.declared.ConfirmationAnswer.the-variants as confirmations
 use Rattle.sender.specs.declared.Confirmed.{Confirmed}
@@ -24,7 +24,7 @@ use Rattle.sender.specs.declared.Cancelled.{Cancelled}
 use Rattle.sender.specs.declared.Popped.{Popped}
 use Rattle.transfer.specs.State.{View, Lent, Out, says}
 use Rattle.transfer.specs.Enqueue.{Grant}
-use Rattle.transfer.specs.Numbers.{refusalOf, Ending, nextOf}
+use Rattle.transfer.specs.Numbers.{refusalOf, Ending, nextOf, confirmationOf}
 use Rattle.sender.specs.declared.Selection.{Selection}
 use Rattle.sender.specs.Arrays.{viewOf, blankSelection, selectionAs}
 
@@ -50,9 +50,9 @@ abbrev pub foundAnswer : FoundAnswer → Outcome Bool
 foundAnswer (founds.Found b) = gives b
 foundAnswer (founds.Refused e) = refuses (refusalOf e)
 
--- whether a frame was in flight
-abbrev pub confirmationAnswer : ConfirmationAnswer → Outcome Confirmation
-confirmationAnswer (confirmations.Confirmation c) = gives c
+-- whether a frame was in flight and, if so, whether all frames are transmitted with it
+abbrev pub confirmationAnswer : ConfirmationAnswer → Outcome (Option Bool)
+confirmationAnswer (confirmations.Confirmation c) = gives (confirmationOf c)
 confirmationAnswer (confirmations.Refused e) = refuses (refusalOf e)
 
 -- ---- with the sender afterwards, and the lent memory where it is written
@@ -90,7 +90,7 @@ abbrev pub sought : Sought → After Bool View
 sought r = record { outcome = foundAnswer (r .answer); state = viewOf (r .sender) }
 
 -- `transmitted`
-abbrev pub confirmed : Confirmed → After Confirmation View
+abbrev pub confirmed : Confirmed → After (Option Bool) View
 confirmed r = record { outcome = confirmationAnswer (r .answer); state = viewOf (r .sender) }
 
 -- `cancel` and `cancel_transaction`

@@ -4,11 +4,12 @@ use mathlib.Core.Bool.{Bool, not, _&&_, _||_}
 use Prim.Native.Nat.{ℕ}
 use lib.Dec.{eqb, leb, ltb}
 use Rattle.token.specs.Token.{fewerThan}
+use Rattle.transfer.specs.Constants.{storeOctets, storeWords, callTokens}
 use Rattle.spach.specs.Refusal.{Outcome, gives, refuse}
 
 -- store short
 abbrev pub isShort : (octets words : ℕ) → Bool
-isShort octets words = ltb octets 32640 || ltb words 3456
+isShort octets words = ltb octets storeOctets || ltb words storeWords
 
 -- 22
 abbrev pub tickOf : («last_block» «last_ms» block ms : ℕ) → Outcome Unit
@@ -16,7 +17,7 @@ tickOf «last_block» «last_ms» block ms = refuse (ltb block «last_block» ||
 
 -- 16, 18, 22
 abbrev pub admitOf : (lacking : Bool) → (next «last_block» «last_ms» block ms : ℕ) → Outcome Unit
-admitOf lacking next «last_block» «last_ms» block ms = refuse lacking 16 (refuse (fewerThan 512 next) 18 (tickOf «last_block» «last_ms» block ms))
+admitOf lacking next «last_block» «last_ms» block ms = refuse lacking 16 (refuse (fewerThan callTokens next) 18 (tickOf «last_block» «last_ms» block ms))
 
 -- `enqueue`: events at capacity 20; deadline not after now 23; empty 1; no transfer replaced and transfers at capacity 20
 abbrev pub screenOf : (capacity waiting pending deadline «last_ms» octets : ℕ) → (replaces : Bool) → Outcome Unit

@@ -4,6 +4,9 @@ use super::Verdict;
 use spach::SpachError;
 use token::fewer_than;
 use transfer::Error;
+use transfer::constants::CALL_TOKENS;
+use transfer::constants::STORE_OCTETS;
+use transfer::constants::STORE_WORDS;
 ghost use mathlib.Core.Path.{_≡_};
 ghost use Rattle.sender.specs.Answers.{verdictOf};
 ghost use Rattle.sender.specs.Asked.{isShort, tickOf, admitOf};
@@ -12,10 +15,10 @@ ghost use Rattle.sender.specs.Asked.{isShort, tickOf, admitOf};
 pub fn short(octets: usize, words: usize) -> bool
     ensures { λ r. ⌜ r ≡ isShort octets words ⌝ }
 {
-    if octets < 32640 {
+    if octets < STORE_OCTETS {
         return true;
     }
-    words < 3456
+    words < STORE_WORDS
 }
 
 // Either clock gone back 22.
@@ -45,7 +48,7 @@ pub fn admit(
     if lacking {
         return Verdict::Refused(Error::Wire(SpachError::Room));
     }
-    if fewer_than(512, next_token) {
+    if fewer_than(CALL_TOKENS, next_token) {
         return Verdict::Refused(Error::Wire(SpachError::Tokens));
     }
     tick(last_block, last_ms, block, now_ms)

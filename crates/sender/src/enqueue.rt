@@ -20,6 +20,7 @@ use transfer::Parcel;
 use transfer::Request;
 use transfer::Transfer;
 use transfer::TransferToken;
+use transfer::constants::ECHO_VALUES;
 use transfer::echo::free_echo;
 use transfer::frame::header_of;
 use transfer::settling::begun;
@@ -129,12 +130,12 @@ pub fn replace(s: Sender, identity: MobileIdentity) -> Sender
 }
 
 // Which places in the lent store the live transfers have: 1 at each of theirs.
-fn places(s: Sender) -> [u64; 128]
+fn places(s: Sender) -> [u64; ECHO_VALUES]
     requires { ⌜ Whole s ⌝ }
     ensures { λ r. ⌜ (length r ≡ 128) × ((k : ℕ) → k < 128 → eqb (getD r k 0) 0 ≡ not (any (λ x. eqb (x .parcel .n) k) (viewOf s .transfers))) ⌝ }
 {
     let n = s.pending;
-    let mut taken = [0u64; 128];
+    let mut taken = [0u64; ECHO_VALUES];
     let mut i = 0;
     while i < n {
         let x = s.transfers[i];
@@ -152,13 +153,13 @@ pub fn lowest_place(s: Sender) -> usize
 {
     let taken = places(s);
     let mut k = 0;
-    while k < 128 {
+    while k < ECHO_VALUES {
         if taken[k] == 0 {
             return k;
         }
         k += 1;
     }
-    128
+    ECHO_VALUES
 }
 
 // The transfer of a request: its owner and its first generation are one number.
@@ -205,7 +206,7 @@ pub fn accept(
     let k = echo as usize;
     let mut held = s;
     held.echo_until_ms[k] = request.deadline_ms + s.echo_guard_ms;
-    held.next_echo = (k + 1) % 128;
+    held.next_echo = (k + 1) % ECHO_VALUES;
     let mut r = replace(held, identity);
     let n = lowest_place(r);
     store_message(store, n, message);

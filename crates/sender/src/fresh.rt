@@ -10,6 +10,7 @@ use transfer::FrameToken;
 use transfer::Generation;
 use transfer::PreparedFrame;
 use transfer::Submission;
+use transfer::constants::ECHO_VALUES;
 ghost use mathlib.Core.Path.{_≡_};
 ghost use Rattle.transfer.specs.State as state;
 ghost use Rattle.sender.specs.Arrays.{blankSelection, viewOf, Fitted};
@@ -47,11 +48,11 @@ pub fn fresh(capacity: usize, echo_guard_ms: u64, startup_until_block: u64, firs
     };
     let selected = unselected();
     Sender {
-        transfers: [x; 128],
+        transfers: [x; ECHO_VALUES],
         pending: 0,
-        events: [slot; 256],
+        events: [slot; 2 * ECHO_VALUES],
         waiting: 0,
-        echo_until_ms: [0u64; 128],
+        echo_until_ms: [0u64; ECHO_VALUES],
         next_echo: 0,
         selected: selected,
         capacity: capacity,

@@ -46,16 +46,19 @@ use transfer::PreparedFrame;
 use transfer::Request;
 use transfer::Transfer;
 use transfer::TransferToken;
+use transfer::constants::ECHO_VALUES;
 use transfer::echo::free_echo;
 use transfer::effects::went_out;
 use transfer::queue::full;
 use walk::walk;
 ghost use mathlib.Core.Path.{_≡_};
-ghost use Rattle.spach.specs.Refusal.{gives, answered};
+ghost use Rattle.spach.specs.Refusal.{gives};
+ghost use Rattle.spach.specs.Answered.{answered};
 ghost use Rattle.transfer.specs.State.{blankView, newOf};
 ghost use Rattle.transfer.specs.Advance.{advanceOf};
 ghost use Rattle.transfer.specs.Enqueue.{enqueueOf};
 ghost use Rattle.transfer.specs.Prepare.{prepareOf, hasEchoOf, interruptOf, preparePrioritizedOf};
+ghost use Rattle.transfer.specs.Numbers.{completionOf, addresseeOf};
 ghost use Rattle.transfer.specs.Submitted.{submittedOf, submittedMessageOf, transmittedOf};
 ghost use Rattle.transfer.specs.Status.{statusOf};
 ghost use Rattle.transfer.specs.Cancel.{cancelOf, cancelTransactionOf, cancelAllOf};
@@ -76,11 +79,11 @@ pub struct EventSlot {
 
 // The live transfers are the first `pending` slots, the waiting events the first `waiting` ones.
 pub struct Sender {
-    pub transfers: [Transfer; 128],
+    pub transfers: [Transfer; ECHO_VALUES],
     pub pending: usize,
-    pub events: [EventSlot; 256],
+    pub events: [EventSlot; 2 * ECHO_VALUES],
     pub waiting: usize,
-    pub echo_until_ms: [u64; 128],
+    pub echo_until_ms: [u64; ECHO_VALUES],
     pub next_echo: usize,
     pub selected: Selection,
     pub capacity: usize,
@@ -176,7 +179,7 @@ impl Sender {
                 verdict: Verdict::Refused(Error::Limits),
             };
         }
-        if 128 < capacity {
+        if ECHO_VALUES < capacity {
             return Moved {
                 sender: fresh(0, 0, 0, 0),
                 verdict: Verdict::Refused(Error::Limits),
@@ -427,7 +430,7 @@ impl Sender {
     // By the token's generation alone.
     pub fn submitted_message(self, token: FrameToken) -> CompletionAnswer
         requires { ⌜ Whole self ⌝ }
-        ensures { λ r. ⌜ r ≡ submittedMessageOf (viewOf self) token ⌝ }
+        ensures { λ r. ⌜ completionOf r ≡ submittedMessageOf (viewOf self) token ⌝ }
     {
         let generation = token.generation;
         let found = find(self, Key::Generation(generation));
@@ -564,7 +567,7 @@ impl Sender {
     // Of the first transfer of this echo.
     pub fn identity_for_echo(self, echo: u8) -> Addressee
         requires { ⌜ Whole self ⌝ }
-        ensures { λ r. ⌜ r ≡ identityForEchoOf (viewOf self) echo ⌝ }
+        ensures { λ r. ⌜ addresseeOf r ≡ identityForEchoOf (viewOf self) echo ⌝ }
     {
         let found = find(self, Key::Echo(echo));
         let x = found.transfer;

@@ -2,6 +2,7 @@
 // Ported from runtime/spach_arq.rs (chrismoos/136-bts 7c60b63bf4, Apache-2.0) and changed: see NOTICE.
 use super::Sender;
 use super::table::moved_to_front;
+use transfer::constants::REFRESH_BLOCKS;
 use transfer::effects::age_of;
 use transfer::effects::refreshed;
 ghost use mathlib.Core.Path.{_≡_};
@@ -32,7 +33,7 @@ pub fn oldest(s: Sender) -> usize
 {
     let n = s.pending;
     let mut best = n;
-    let mut top = 16;
+    let mut top = REFRESH_BLOCKS;
     let mut i = 0;
     while i < n {
         let x = s.transfers[i];

@@ -17,6 +17,7 @@ use transfer::Error;
 use transfer::FrameToken;
 use transfer::Key;
 use transfer::Transfer;
+use transfer::constants::MESSAGE_WORDS;
 use transfer::effects::confirm_frame;
 use transfer::effects::in_flight;
 use transfer::effects::is_outstanding;
@@ -79,7 +80,7 @@ fn hand_in(s: Sender, token: FrameToken, place: usize, x: Transfer, words: &mut 
     let p = x.parcel;
     let y = in_flight(token.frame, s.last_block, x);
     let nothing = unselected();
-    words[27 * (p.n as usize) + token.frame] = token.submission.0;
+    words[MESSAGE_WORDS * (p.n as usize) + token.frame] = token.submission.0;
     let mut r = pushed(removed(s, place), y);
     r.selected = nothing;
     r

@@ -9,6 +9,7 @@ use transfer::Event;
 use transfer::Fate;
 use transfer::FreeEcho;
 use transfer::advance::fate_of;
+use transfer::constants::ECHO_VALUES;
 use transfer::echo::free_echo;
 use transfer::settling::begun;
 ghost use mathlib.Core.Path.{_≡_};
@@ -65,7 +66,7 @@ pub fn walk(s: Sender, asked: usize) -> Sender
                         r.transfers[r.pending] = begun(x.parcel, e, r.next_token);
                         r.pending += 1;
                         r.echo_until_ms[echo] = x.parcel.deadline_ms + r.echo_guard_ms;
-                        r.next_echo = (echo + 1) % 128;
+                        r.next_echo = (echo + 1) % ECHO_VALUES;
                         r.next_token = number_after(r.next_token);
                     }
                 }

@@ -6,7 +6,8 @@ use native.Mathlib.Omega.{arith}
 use Rattle.spach.specs.declared.SpachError.{SpachError}
 use Rattle.spach.specs.declared.Verdict.{Verdict}
 use Rattle.spach.specs.declared.Verdict.the-variants.{Accepted, Refused}
-use Rattle.spach.specs.Refusal.{numberOf, Outcome, gives, refuses, refuse, andThen, verdictOf, answered}
+use Rattle.spach.specs.Refusal.{numberOf, Outcome, gives, refuses, refuse, andThen, verdictOf}
+use Rattle.spach.specs.Answered.{answered}
 
 -- what gives a value past a test: the test does not hold, and the rest gives that value
 pub passed : {A : Type 0} (t : Bool) (n : ℕ) (o : Outcome A) {a : A} → refuse t n o ≡ gives a → (t ≡ false) × (o ≡ gives a)

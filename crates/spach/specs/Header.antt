@@ -47,18 +47,26 @@ headerB kind type f =
     ∷ (1, bit (f .«reservation_response»))
     ∷ []
 
--- a Begin's address: encrypted bit, identity
-abbrev pub address : MobileIdentity → List (ℕ × ℕ)
-address i =
+-- a Begin's address: encrypted bit, identity, which has its type's width
+abbrev pub addressOf : ℕ → ℕ → List (ℕ × ℕ)
+addressOf type v =
     (1, 0)
-    ∷ (widthOf (typeOf i), valueOf i)
+    ∷ (widthOf type, v)
     ∷ []
+
+-- of an identity
+abbrev pub address : MobileIdentity → List (ℕ × ℕ)
+address i = addressOf (typeOf i) (valueOf i)
 
 -- ---- read
 
+-- some bit of a field is set
+abbrev pub nonzero : ℕ → Bool
+nonzero n = not (eqb n 0)
+
 -- the bit at offset o is set
 abbrev pub isSet : ℕ → List Bool → Bool
-isSet o bs = not (eqb (field o 1 bs) 0)
+isSet o bs = nonzero (field o 1 bs)
 
 -- the channel of a usage, or 3
 abbrev pub channelOf : ℕ → Outcome Channel

@@ -43,11 +43,6 @@ abbrev pub verdictOf : Verdict → Outcome Unit
 verdictOf Accepted = gives tt
 verdictOf (Refused e) = refuses (numberOf e)
 
--- a call's answer as outcome and value: beside a refusal stands the blank value
-abbrev pub answered : {A : Type 0} → A → Outcome A → Outcome Unit × A
-answered blank (gives a) = (gives tt, a)
-answered blank (refuses n) = (refuses n, blank)
-
 -- what a call leaves: its outcome, and the state afterwards
 pub record After (A S : Type 0) : Type 0 where
   pub outcome : Outcome A

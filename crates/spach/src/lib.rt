@@ -3,7 +3,8 @@
 use rach::MobileIdentity;
 ghost use mathlib.Core.Path.{_≡_};
 ghost use Prim.Native.Nat.{_+_, _^_, _<_};
-ghost use Rattle.field.specs.Bits.{bitsOf, field, Placed, Run};
+ghost use Rattle.field.specs.Bits.{bitsOf, field};
+ghost use Rattle.field.specs.Spans.{Placed, Run};
 ghost use Rattle.spach.specs.Refusal.{numberOf, verdictOf};
 ghost use Rattle.spach.specs.Identity.{identityAnswer, checkIdentity, acceptIdentity};
 ghost use Rattle.spach.specs.Header.{usageOf, channelAnswer, channelOf, headerAAnswer, headerAAt, addressAnswer, identityAt, addressAt};

@@ -1,2 +1,2 @@
--- Tokens as numbers. Believe `stop` and `fewerThan`.
+-- Tokens as numbers. Believe `stop`, `fewerThan` and `numberAfter`.
 pub mod Token

@@ -21,7 +21,7 @@ use Rattle.transfer.specs.declared.PreparedFrame.{PreparedFrame}
 use Rattle.transfer.specs.Queue.{isEmpty, has, firstFrames, continuesOf, frameAlone, without, front}
 use Rattle.transfer.specs.State.{Limits, Clock, Echoes}
 use Rattle.transfer.specs.Echo.{heldUntil, hold}
-use Rattle.transfer.specs.Transfer.{passed, isSet, orFrom, idle, lastQueued, wentOut, doneOf, requeued, waits, settleOf, begun}
+use Rattle.transfer.specs.Transfer.{withSets, withBlocks, passed, isSet, orFrom, idle, lastQueued, wentOut, doneOf, requeued, waits, settleOf, begun}
 use Rattle.transfer.specs.Prepare.{isReady, repeated}
 use Rattle.transfer.specs.Submitted.{inFlight, confirmFrame}
 use Rattle.transfer.specs.Status.{shown, observes}
@@ -50,6 +50,14 @@ pub idle-empty : (x : Transfer) → idle x ≡ true → (x .sets .queue ≡ 0) �
 idle-empty x h =
     let p = both (isEmpty (x .sets .queue)) (isEmpty (x .sets .«in_flight»)) h in
     (eqb-true (x .sets .queue) 0 (p .0), eqb-true (x .sets .«in_flight») 0 (p .1))
+
+-- one that is ready has a frame queued
+pub ready-some : (x : Transfer) → isReady x ≡ true → 0 < x .sets .queue
+ready-some x h = positive (x .sets .queue) (eqb-false (x .sets .queue) 0 (not-true (isEmpty (x .sets .queue)) h))
+  where
+    positive : (n : ℕ) → (n ≡ 0 → ⊥) → 0 < n
+    positive zero f = absurd (f refl)
+    positive (suc n) f = omega arith
 
 -- one that has a frame queued is not idle
 pub ready-busy : (x : Transfer) → isReady x ≡ true → idle x ≡ false
@@ -125,7 +133,7 @@ first-some n h e = omega (arith, eqb-true (firstFrames n) 0 e, pow-mono {i = 1} 
 
 -- other sets and blocks, with the parcel, the generation and the echo as they were
 abbrev pub altered : Transfer → Sets → Blocks → Transfer
-altered x s b = record { parcel = x .parcel; generation = x .generation; sets = s; echo = x .echo; blocks = b }
+altered x s b = withBlocks (withSets x s) b
 
 module _ {l : Limits} {c : Clock} {e : Echoes} {next : ℕ} (x : Transfer) (h : Live l c e next x) where
   -- the rest of what is live does not read the sets and the blocks
@@ -231,8 +239,7 @@ module _ {l : Limits} {c : Clock} {e : Echoes} {next : ℕ} (x : Transfer) (h : 
   pub in-flight-live : (frame : ℕ) → isReady x ≡ true → frame ≡ front (x .sets .queue) → Live l c e next (inFlight frame (c .«last_block») x)
   in-flight-live frame r f =
       let s = h .sets in
-      let some : 0 < x .sets .queue = pos (x .sets .queue) (eqb-false (x .sets .queue) 0 (not-true (isEmpty (x .sets .queue)) r)) in
-      let low : frame < x .parcel .frames = rw f (front-low (x .parcel .frames) (x .sets .queue) some (s .queue)) in
+      let low : frame < x .parcel .frames = rw f (front-low (x .parcel .frames) (x .sets .queue) (ready-some x r) (s .queue)) in
       altered-live _ _
       (record {
         queue = without-low (x .parcel .frames) (x .sets .queue) (frameAlone frame) (s .queue);
@@ -246,10 +253,6 @@ module _ {l : Limits} {c : Clock} {e : Echoes} {next : ℕ} (x : Transfer) (h : 
         submitted = λ k. refl;
       })
       (record { progress = omega arith; waiting = h .timed .waiting; last-frame = omega arith })
-    where
-      pos : (n : ℕ) → (n ≡ 0 → ⊥) → 0 < n
-      pos zero k = absurd (k refl)
-      pos (suc n) k = omega arith
 
   -- a frame in flight confirmed
   pub confirmed-live : (frame : ℕ) → frame < x .parcel .frames → Live l c e next (confirmFrame frame x)

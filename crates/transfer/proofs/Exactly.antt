@@ -1,46 +1,79 @@
 -- What single definitions answer, on every state, in plain numbers: a definition that is changed together with its code meets its contract, and
--- fails here. The search for an echo is in Around (`free-least`, `none-free`). Assumes nothing.
+-- fails here. The search for an echo is in EchoSearch (`free-least`, `none-free`), what calls leave in Leaves. Assumes nothing.
 use mathlib.Core.Path.{_≡_, refl, sym, ap, subst, _∙_}
 use mathlib.Core.Logic.{_≢_, _⊎_, inl, inr, ⊎-elim, _↔_}
 use mathlib.Core.Bool.{Bool, true, false, cond, not, _&&_, _||_}
 use mathlib.Core.List.{List, [], _∷_, _++_, map}
 use mathlib.Core.Option.{Option, none, some}
-use Prim.Native.Nat.{ℕ, zero, suc, _+_, _-_, _≤_, _<_, _^_}
+use Prim.Native.Nat.{ℕ, zero, suc, _+_, _-_, _*_, _≤_, _<_, _^_}
 use native.Mathlib.Nat.{two-pow-succ}
 use native.Mathlib.Omega.{arith}
 use lib.Dec.{eqb, leb, ltb}
-use lib.ListN.{length, take, drop, getD}
+use lib.Bits.{bitAnd, bitOr}
+use lib.Count.{ones}
+use lib.ListN.{length, take, drop, getD, length-append, length-drop, List·getD-append}
+use lib.Seq.{length-take-le, getD-append-add, getD-take, getD-drop}
 use lib.Pow.{pow-pos}
 use borrow.Author.Tests.{eqb-true, eqb-false, eq-eqb, ne-eqb, lt-ltb, le-ltb, ltb-true, ltb-false, leb-true, leb-false, le-leb, not-true, not-false}
 use Rattle.rach.specs.declared.MobileIdentity.{MobileIdentity}
 use Rattle.rach.proofs.Laws.{same-self, same-equal}
-use Rattle.spach.specs.Refusal.{Outcome, gives, refuses, After}
+use Rattle.spach.specs.declared.Channel.{Channel}
+use Rattle.spach.specs.Refusal.{Outcome, gives, refuses, andThen, After}
 use Rattle.receiver.proofs.Maps.{compared}
-use Rattle.receiver.proofs.Ways.{by-bool, true-false, pick-true, pick-false}
+use Rattle.receiver.proofs.PushCases.{by-bool, true-false, pick-true, pick-false}
 use Rattle.arq.specs.declared.PackedFrame.{PackedFrame}
+use Rattle.arq.specs.declared.ResponseMode.the-variants.{Contention}
+use Rattle.arq.specs.Cut.{frameOf}
+use Rattle.arq.specs.Encode.{encodeOf}
+use Rattle.transfer.specs.declared.FrameToken.{FrameToken}
+use Rattle.transfer.specs.declared.Generation.{Generation}
 use Rattle.transfer.specs.declared.Parcel.{Parcel}
 use Rattle.transfer.specs.declared.Since.{Since}
 use Rattle.transfer.specs.declared.Since.the-variants.{Never, Block}
 use Rattle.transfer.specs.declared.Transfer.{Transfer}
 use Rattle.transfer.specs.declared.PreparedFrame.{PreparedFrame}
+use Rattle.transfer.specs.declared.Request.{Request}
 use Rattle.transfer.specs.Lists.{position, any, removeAt, pushBack}
 use Rattle.transfer.specs.Queue.{isEmpty, has, firstFrames, continuesOf, frameAlone, front}
-use Rattle.transfer.specs.State.{View, withTransfers, withSelected, says, blankTransfer, ofEcho}
-use Rattle.transfer.specs.Transfer.{passed, isSet, orFrom, idle, lastQueued, doneOf, requeued, waits, settleOf, restartDue, begun}
+use Rattle.transfer.specs.State.{View, withTransfers, withSelected, says, blankTransfer, ofEcho, unselect}
+use Rattle.transfer.specs.Transfer.{passed, isSet, orFrom, headerOf, idle, lastQueued, doneOf, requeued, waits, settleOf, restartDue, begun}
 use Rattle.transfer.specs.Advance.{restart}
 use Rattle.transfer.specs.Echo.{free}
-use Rattle.transfer.specs.Enqueue.{addressed, lowestFrom, lowestN}
-use Rattle.transfer.specs.Prepare.{isReady, frontOf, preparedOf, selects, chooseFrom, choose, hasEchoOf, repeated, onlyEcho, prioritized, prioritizeAt}
-use Rattle.transfer.specs.Submitted.{inFlight, confirmFrame}
-use Rattle.transfer.specs.Refresh.{refreshed, blocksSince, ageOf, oldestFrom, oldest, toFront, oldestFirst, serveOldest}
-use Rattle.transfer.specs.Queries.{canEnqueueOf, radioActiveOf, readyOf, containsOf}
+use Rattle.transfer.specs.Enqueue.{addressed, lowestFrom, lowestN, parcelOf, stored}
+use Rattle.transfer.specs.Prepare.{isReady, packedOf, frontOf, preparedOf, selects, chooseFrom, choose, hasEchoOf, repeated, onlyEcho, prioritized, prioritizeAt}
+use Rattle.transfer.specs.Submitted.{matches, isSelected, inFlight, isOutstanding, confirmFrame}
+use Rattle.transfer.specs.Status.{shown, observes}
+use Rattle.transfer.specs.Refresh.{refreshed, queueWaiting, blocksSince, ageOf, oldestFrom, oldest, toFront, oldestFirst, serveOldest}
+use Rattle.transfer.specs.Queries.{canEnqueueOf, radioActiveOf, readyOf, containsOf, pendingOf}
 use Rattle.transfer.specs.Invariant.{All, Some, Sound}
-use Rattle.transfer.proofs.Bitsets.{bit-none, bit-first, below-bits, bit-has, bit-lacks, has-alone, has-added, has-without}
+use Rattle.transfer.proofs.Bitsets.{bit-none, bit-first, below-bits, bit-has, bit-lacks, has-or, has-and, has-alone, has-added, has-without}
 use Rattle.transfer.proofs.Frames.{bit-firsts, bit-continue}
 use Rattle.transfer.proofs.Listed.{all-head, some-map, some-all, any-true, any-false, position-found, position-before}
-use Rattle.transfer.proofs.Kept.{lowest-free}
+use Rattle.transfer.proofs.Invariant.{lowest-free}
 use Rattle.transfer.proofs.Calls.{prioritized-kept}
-use Rattle.transfer.proofs.Remarks.{choose-none-exactly}
+use Rattle.transfer.proofs.Refusals.{choose-none-exactly}
+use Rattle.transfer.proofs.Literal.{shown-has}
+use Rattle.transfer.proofs.Leaves.{view}
+
+-- ---- tests
+
+-- each of several tests says what it says
+three : {A B C : Type 0} (a b c : Bool) → (a ≡ true) ↔ A → (b ≡ true) ↔ B → (c ≡ true) ↔ C → ((a && (b && c)) ≡ true) ↔ (A × B × C)
+three true true c f g h = ((λ e. (f .0 refl, g .0 refl, h .0 e)), (λ k. h .1 (k .2)))
+three true false c f g h = ((λ e. absurd (true-false {x = false} e refl)), (λ k. g .1 (k .1)))
+three false b c f g h = ((λ e. absurd (true-false {x = false} e refl)), (λ k. f .1 (k .0)))
+
+four : {A B C D : Type 0} (a b c d : Bool) → (a ≡ true) ↔ A → (b ≡ true) ↔ B → (c ≡ true) ↔ C → (d ≡ true) ↔ D → ((a && (b && (c && d))) ≡ true) ↔ (A × B × C × D)
+four true b c d f g h i = let k = three b c d g h i in ((λ e. let w = k .0 e in (f .0 refl, w .0, w .1, w .2)), (λ w. k .1 (w .1, w .2, w .3)))
+four false b c d f g h i = ((λ e. absurd (true-false {x = false} e refl)), (λ k. f .1 (k .0)))
+
+-- two numbers are the same
+equal-exactly : (a b : ℕ) → (eqb a b ≡ true) ↔ (a ≡ b)
+equal-exactly a b = (eqb-true a b, eq-eqb a b)
+
+-- one is below the other
+below-exactly : (a b : ℕ) → (ltb a b ≡ true) ↔ (a < b)
+below-exactly a b = (ltb-true a b, lt-ltb a b)
 
 -- ---- blocks
 
@@ -84,26 +117,68 @@ has-continues (suc n) (suc k) = go (ltb (suc k) (suc n)) refl
     go true e = rw (lt-ltb 0 (suc k) (omega arith)) (bit-has (continuesOf (suc n)) (suc k) (bit-continue (suc n) k (ltb-true (suc k) (suc n) e)))
     go false e = rw (lt-ltb 0 (suc k) (omega arith)) (bit-lacks (continuesOf (suc n)) (suc k) (below-bits (suc n) (continuesOf (suc n)) (suc k) (omega (arith, pow-pos (suc n))) (ltb-false (suc k) (suc n) e)))
 
--- with nothing queued or in flight and a status, not done: every Continue that is not observed is queued, and no other frame; so not the Begin
-pub requeues-exactly : (block : ℕ) (x : Transfer) → x .sets .queue ≡ 0 → x .sets .«in_flight» ≡ 0 → doneOf x ≡ false → x .sets .«received_status» ≡ true
-    → (k : ℕ) → has (settleOf block x .sets .queue) k ≡ ((ltb 0 k && ltb k (x .parcel .frames)) && not (has (x .sets .observed) k))
+-- parcel, generation and echo stay
+abbrev pub SameOrder : (x y : Transfer) → Type 0
+SameOrder x y = (y .parcel ≡ x .parcel) × (y .generation ≡ x .generation) × (y .echo ≡ x .echo)
+
+-- with nothing queued or in flight and a status, not done: every Continue that is not observed is queued, and no other frame; so not the Begin. The
+-- status is used up, it waits no more, and nothing else is another
+pub requeues-exactly : (block : ℕ) (x : Transfer) → x .sets .queue ≡ 0 → x .sets .«in_flight» ≡ 0 → doneOf x ≡ false → x .sets .«received_status» ≡ true → let y = settleOf block x in
+    ((k : ℕ) → has (y .sets .queue) k ≡ ((ltb 0 k && ltb k (x .parcel .frames)) && not (has (x .sets .observed) k)))
+    × (y .sets .«in_flight» ≡ x .sets .«in_flight») × (y .sets .transmitted ≡ x .sets .transmitted) × (y .sets .observed ≡ x .sets .observed) × (y .sets .«received_status» ≡ false)
+    × (y .blocks .«last_progress» ≡ x .blocks .«last_progress») × (y .blocks .«last_frame» ≡ x .blocks .«last_frame») × (y .blocks .«waiting_since» ≡ Never) × SameOrder x y
 unfolding settleOf
-requeues-exactly block x q f d s k =
+requeues-exactly block x q f d s =
     let i : idle x ≡ true = rw (q, f) refl in
     let n : (not (idle x) || doneOf x) ≡ false = rw (i, d) refl in
-    ap (λ (y : Transfer). has (y .sets .queue) k) (pick-false x (cond (x .sets .«received_status») (requeued x) (waits block x)) n ∙ pick-true (requeued x) (waits block x) s)
-    ∙ (has-without (continuesOf (x .parcel .frames)) (x .sets .observed) k ∙ ap (λ (t : Bool). t && not (has (x .sets .observed) k)) (has-continues (x .parcel .frames) k))
+    let e : settleOf block x ≡ requeued x = pick-false x (cond (x .sets .«received_status») (requeued x) (waits block x)) n ∙ pick-true (requeued x) (waits block x) s in (
+      (λ k. ap (λ (y : Transfer). has (y .sets .queue) k) e ∙ (has-without (continuesOf (x .parcel .frames)) (x .sets .observed) k ∙ ap (λ (t : Bool). t && not (has (x .sets .observed) k)) (has-continues (x .parcel .frames) k))),
+      ap (λ (y : Transfer). y .sets .«in_flight») e,
+      ap (λ (y : Transfer). y .sets .transmitted) e,
+      ap (λ (y : Transfer). y .sets .observed) e,
+      ap (λ (y : Transfer). y .sets .«received_status») e,
+      ap (λ (y : Transfer). y .blocks .«last_progress») e,
+      ap (λ (y : Transfer). y .blocks .«last_frame») e,
+      ap (λ (y : Transfer). y .blocks .«waiting_since») e,
+      (ap (λ (y : Transfer). y .parcel) e, ap (λ (y : Transfer). y .generation) e, ap (λ (y : Transfer). y .echo) e),
+    )
+
+-- with a frame queued or in flight, or done, it stays as it is
+pub settle-stays : (block : ℕ) (x : Transfer) → ((x .sets .queue ≢ 0) ⊎ (x .sets .«in_flight» ≢ 0)) ⊎ (doneOf x ≡ true) → settleOf block x ≡ x
+unfolding settleOf
+settle-stays block x h =
+    pick-true x (cond (x .sets .«received_status») (requeued x) (waits block x)) (⊎-elim (⊎-elim (λ n. busy (isEmpty (x .sets .queue)) (isEmpty (x .sets .«in_flight»)) (inl (ne-eqb (x .sets .queue) 0 n))) (λ n. busy (isEmpty (x .sets .queue)) (isEmpty (x .sets .«in_flight»)) (inr (ne-eqb (x .sets .«in_flight») 0 n)))) (λ d. late (not (idle x)) d) h)
+  where
+    busy : (p q : Bool) → (p ≡ false) ⊎ (q ≡ false) → (not (p && q) || doneOf x) ≡ true
+    busy true true (inl e) = absurd (true-false {x = true} refl e)
+    busy true true (inr e) = absurd (true-false {x = true} refl e)
+    busy true false e = refl
+    busy false q e = refl
+
+    late : (p : Bool) → doneOf x ≡ true → (p || doneOf x) ≡ true
+    late true d = refl
+    late false d = d
+
+-- done: a status came, nothing is in flight, as many frames are transmitted as there are, and one fewer observed
+pub done-exactly : (x : Transfer) → (doneOf x ≡ true) ↔ ((x .sets .«received_status» ≡ true) × (x .sets .«in_flight» ≡ 0) × (ones (x .sets .transmitted) ≡ x .parcel .frames) × (ones (x .sets .observed) ≡ x .parcel .frames - 1))
+unfolding doneOf
+done-exactly x =
+    four (x .sets .«received_status») (eqb (x .sets .«in_flight») 0) (eqb (ones (x .sets .transmitted)) (x .parcel .frames)) (eqb (ones (x .sets .observed)) (x .parcel .frames - 1))
+    ((λ e. e), (λ e. e))
+    (equal-exactly (x .sets .«in_flight») 0)
+    (equal-exactly (ones (x .sets .transmitted)) (x .parcel .frames))
+    (equal-exactly (ones (x .sets .observed)) (x .parcel .frames - 1))
 
 -- without a status it waits, from this block on unless it does so already, and nothing else is another
 pub waits-exactly : (block : ℕ) (x : Transfer) → x .sets .queue ≡ 0 → x .sets .«in_flight» ≡ 0 → x .sets .«received_status» ≡ false → let y = settleOf block x in
-    (y .sets ≡ x .sets) × (y .blocks .«last_progress» ≡ x .blocks .«last_progress») × (y .blocks .«last_frame» ≡ x .blocks .«last_frame»)
+    (y .sets ≡ x .sets) × SameOrder x y × (y .blocks .«last_progress» ≡ x .blocks .«last_progress») × (y .blocks .«last_frame» ≡ x .blocks .«last_frame»)
     × (((x .blocks .«waiting_since» ≡ Never) × (y .blocks .«waiting_since» ≡ Block block)) ⊎ ((b : ℕ) × (x .blocks .«waiting_since» ≡ Block b) × (y .blocks .«waiting_since» ≡ Block b)))
 unfolding settleOf doneOf
 waits-exactly block x q f s =
     let i : idle x ≡ true = rw (q, f) refl in
     let d : (not (idle x) || doneOf x) ≡ false = rw (i, s) refl in
     let e : settleOf block x ≡ waits block x = pick-false x (cond (x .sets .«received_status») (requeued x) (waits block x)) d ∙ pick-false (requeued x) (waits block x) s in
-    (ap (λ (y : Transfer). y .sets) e, ap (λ (y : Transfer). y .blocks .«last_progress») e, ap (λ (y : Transfer). y .blocks .«last_frame») e, go (x .blocks .«waiting_since») (ap (λ (y : Transfer). y .blocks .«waiting_since») e))
+    (ap (λ (y : Transfer). y .sets) e, (ap (λ (y : Transfer). y .parcel) e, ap (λ (y : Transfer). y .generation) e, ap (λ (y : Transfer). y .echo) e), ap (λ (y : Transfer). y .blocks .«last_progress») e, ap (λ (y : Transfer). y .blocks .«last_frame») e, go (x .blocks .«waiting_since») (ap (λ (y : Transfer). y .blocks .«waiting_since») e))
   where
     go : (w : Since) {n : Since} → n ≡ orFrom block w → ((w ≡ Never) × (n ≡ Block block)) ⊎ ((b : ℕ) × (w ≡ Block b) × (n ≡ Block b))
     go Never e = inl (refl, e)
@@ -118,11 +193,17 @@ has-firsts n k = go (ltb k n) refl
     go true e = bit-has (firstFrames n) k (bit-firsts n k (ltb-true k n e))
     go false e = bit-lacks (firstFrames n) k (below-bits n (firstFrames n) k (omega (arith, pow-pos n)) (ltb-false k n e))
 
--- every frame is queued, and nothing is left of before: so an age counts from a frame under the present echo
+-- under this echo and generation every frame is queued, and nothing is left of before: so an age counts from a frame under the present echo
 pub begins-exactly : (p : Parcel) (echo generation : ℕ) → let y = begun p echo generation in
-    ((k : ℕ) → has (y .sets .queue) k ≡ ltb k (p .frames)) × (y .sets .«in_flight» ≡ 0) × (y .sets .transmitted ≡ 0) × (y .sets .observed ≡ 0) × (y .sets .«received_status» ≡ false)
+    (y .parcel ≡ p) × (y .echo ≡ echo) × (y .generation .0 ≡ generation) × ((k : ℕ) → has (y .sets .queue) k ≡ ltb k (p .frames)) × (y .sets .«in_flight» ≡ 0) × (y .sets .transmitted ≡ 0) × (y .sets .observed ≡ 0) × (y .sets .«received_status» ≡ false)
     × (y .blocks .«last_progress» ≡ Never) × (y .blocks .«last_frame» ≡ Never) × (y .blocks .«waiting_since» ≡ Never)
-begins-exactly p echo generation = (has-firsts (p .frames), refl, refl, refl, refl, refl, refl, refl)
+begins-exactly p echo generation = (refl, refl, refl, has-firsts (p .frames), refl, refl, refl, refl, refl, refl, refl)
+
+-- what `enqueue` makes of a request: identity, completion, deadline and channel are the request's, in full
+pub parcel-exactly : (r : Request) (message : List ℕ) (frames n owner : ℕ) → let p = parcelOf r message frames n owner in
+    (p .identity ≡ r .identity) × (p .completion ≡ r .completion) × (p .«deadline_ms» ≡ r .«deadline_ms») × (p .owner .0 ≡ owner) × (p .channel ≡ r .channel)
+    × (p .octets ≡ length message) × (p .frames ≡ frames) × (p .n ≡ n)
+parcel-exactly r message frames n owner = (refl, refl, refl, refl, refl, refl, refl, refl)
 
 -- a restart with a free echo leaves exactly that, behind those before it in the list
 pub restarts-exactly : (v : View) (x : Transfer) (echo : ℕ) → restart v x (some echo) .transfers ≡ pushBack (v .transfers) (begun (x .parcel) echo (v .«next_token»))
@@ -311,16 +392,55 @@ eldest-one block l i j a b = ⊎-elim (λ lt. absurd (apart i j a b lt)) (⊎-el
         let n = h .most p (g .age) (g .inside) (g .aged) in
         omega arith
 
+-- a sender with its transfers in another order
+abbrev pub ordered : View → List Transfer → View
+ordered v ts = view (v .limits) (v .clock) ts (v .events) (v .echoes) (v .selected) (v .«next_token»)
+
+-- each transfer for itself is refreshed, however many there are, and nothing else changes
+pub queues-waiting : (v : View) → queueWaiting v ≡ ordered v (map (refreshed (v .clock .«last_block»)) (v .transfers))
+unfolding queueWaiting
+queues-waiting v = refl
+
 -- if no frame is selected, the transfer there goes to the front, and the others keep their order
-pub serves-exactly : (v : View) (i : ℕ) → v .selected ≡ none → let l = v .transfers in Eldest (v .clock .«last_block») l i → serveOldest v .transfers ≡ getD l i blankTransfer ∷ (take i l ++ drop (suc i) l)
+pub serves-exactly : (v : View) (i : ℕ) → v .selected ≡ none → let l = v .transfers in Eldest (v .clock .«last_block») l i → serveOldest v ≡ ordered v (getD l i blankTransfer ∷ (take i l ++ drop (suc i) l))
 unfolding serveOldest
 serves-exactly v i s h =
     let l = v .transfers in
     let block = v .clock .«last_block» in
     let e : oldest block l ≡ i = ⊎-elim (λ k. eldest-one block l (oldest block l) i k h) (λ k. absurd (k .1 i (h .age) (h .inside) (h .aged))) (oldest-exactly block l) in
-    ap (λ (o : Option PreparedFrame). oldestFirst v o .transfers) s ∙ (ap (λ (p : ℕ). toFront p l) e ∙ pick-true (getD l i blankTransfer ∷ removeAt i l) l (lt-ltb i (length l) (h .inside)))
+    ap (oldestFirst v) s ∙ ap (ordered v) (ap (λ (p : ℕ). toFront p l) e ∙ pick-true (getD l i blankTransfer ∷ removeAt i l) l (lt-ltb i (length l) (h .inside)))
+
+-- if none is 16 blocks old, nothing changes
+pub serves-none : (v : View) → v .selected ≡ none → let l = v .transfers in ((j a : ℕ) → j < length l → Aged (v .clock .«last_block») (getD l j blankTransfer) a → ⊥) → serveOldest v ≡ v
+unfolding serveOldest
+serves-none v s h =
+    let l = v .transfers in
+    let block = v .clock .«last_block» in
+    let e : oldest block l ≡ length l = ⊎-elim (λ k. absurd (h (oldest block l) (k .age) (k .inside) (k .aged))) (λ k. k .0) (oldest-exactly block l) in
+    ap (oldestFirst v) s ∙ ap (ordered v) (ap (λ (p : ℕ). toFront p l) e ∙ pick-false (getD l (length l) blankTransfer ∷ removeAt (length l) l) l (le-ltb (length l) (length l) (omega arith)))
+
+-- while a frame is selected, nothing changes
+pub serves-selected : (v : View) (f : PreparedFrame) → v .selected ≡ some f → serveOldest v ≡ v
+unfolding serveOldest
+serves-selected v f s = ap (oldestFirst v) s
 
 -- ---- prepare
+
+-- the header of the cut has no flag, and Contention, whatever the channel and the echo
+pub header-exactly : (channel : Channel) (echo : ℕ) (polling : Bool) → headerOf channel echo polling ≡ record {
+  channel = channel;
+  flags = record { «pch_continuation» = false; «bcch_change» = false; «paging_frame_modifier» = false; «reservation_response» = false };
+  «partial_echo» = echo;
+  polling = polling;
+  «response_mode» = Contention;
+}
+header-exactly channel echo polling = refl
+
+-- a frame is cut out of the order's own part of the lent store, for its identity, under its channel and its present echo
+pub packed-exactly : (x : Transfer) (octets : List ℕ) (k : ℕ) (polling : Bool) → packedOf x octets k polling
+    ≡ andThen (frameOf (headerOf (x .parcel .channel) (x .echo) polling) (x .parcel .identity) (take (x .parcel .octets) (drop (255 * x .parcel .n) octets)) k) encodeOf
+unfolding packedOf
+packed-exactly x octets k polling = refl
 
 -- the frame of an answer, another where there is none
 abbrev frameTold : PreparedFrame → Outcome (Option PreparedFrame) → PreparedFrame
@@ -429,14 +549,83 @@ lowest-each (suc tries) k l h j lt = go (any test l) refl lt (λ q m. lowest-eac
 pub lowest-exactly : (l : List Transfer) → length l < 128 → All (λ x. lowestN l ≢ x .parcel .n) l × ((j : ℕ) → j < lowestN l → Some (λ x. x .parcel .n ≡ j) l)
 lowest-exactly l h = (lowest-free 128 0 l (λ j m. absurd (omega arith)) (omega arith) .1, λ j m. lowest-each 128 0 l (λ i z. absurd (omega arith)) j m)
 
+-- message n is in its own part of the lent store, from the first octet; every other octet is as it was, past the message in its own part too
+pub stored-exactly : (octets : List ℕ) (n : ℕ) (message : List ℕ) → 255 * n + length message ≤ length octets → let o = stored octets n message in
+    ((k : ℕ) → k < length message → getD o (255 * n + k) 0 ≡ getD message k 0) × ((k : ℕ) → k < 255 * n → getD o k 0 ≡ getD octets k 0) × ((k : ℕ) → getD o (255 * n + length message + k) 0 ≡ getD octets (255 * n + length message + k) 0)
+    × (length o ≡ length octets)
+stored-exactly octets n message h = (inside, before, behind, whole)
+  where
+    start : ℕ
+    start = 255 * n
+
+    a : List ℕ
+    a = take start octets
+
+    d : List ℕ
+    d = drop (start + length message) octets
+
+    long : length a ≡ start
+    long = length-take-le start octets (omega arith)
+
+    both : length (a ++ message) ≡ start + length message
+    both = length-append a message ∙ ap (λ (j : ℕ). j + length message) long
+
+    inside : (k : ℕ) → k < length message → getD (a ++ message ++ d) (start + k) 0 ≡ getD message k 0
+    inside k lt = List·getD-append (a ++ message) d 0 (start + k) (omega (arith, both)) ∙ (ap (λ (j : ℕ). getD (a ++ message) (j + k) 0) (sym long) ∙ getD-append-add a message k 0)
+
+    before : (k : ℕ) → k < start → getD (a ++ message ++ d) k 0 ≡ getD octets k 0
+    before k lt = List·getD-append (a ++ message) d 0 k (omega (arith, both)) ∙ (List·getD-append a message 0 k (omega (arith, long)) ∙ getD-take start octets k 0 lt)
+
+    behind : (k : ℕ) → getD (a ++ message ++ d) (start + length message + k) 0 ≡ getD octets (start + length message + k) 0
+    behind k = ap (λ (j : ℕ). getD (a ++ message ++ d) (j + k) 0) (sym both) ∙ (getD-append-add (a ++ message) d k 0 ∙ getD-drop (start + length message) octets k 0)
+
+    whole : length (a ++ message ++ d) ≡ length octets
+    whole = length-append (a ++ message) d ∙ omega (arith, both, length-drop (start + length message) octets)
+
+-- ---- tokens and selections
+
+-- generation, submission and frame are the same
+abbrev pub SameToken : FrameToken → FrameToken → Type 0
+SameToken a b = (a .generation .0 ≡ b .generation .0) × (a .submission .0 ≡ b .submission .0) × (a .frame ≡ b .frame)
+
+-- a token matches another exactly if all three are the same, of a Continue too
+pub matches-exactly : (a b : FrameToken) → (matches a b ≡ true) ↔ SameToken a b
+matches-exactly a b =
+    three (eqb (a .generation .0) (b .generation .0)) (eqb (a .submission .0) (b .submission .0)) (eqb (a .frame) (b .frame))
+    (equal-exactly (a .generation .0) (b .generation .0))
+    (equal-exactly (a .submission .0) (b .submission .0))
+    (equal-exactly (a .frame) (b .frame))
+
+-- it is the selected frame's exactly if one is selected and its token is the same
+pub selected-exactly : (t : FrameToken) (f : PreparedFrame) → (isSelected t none ≡ false) × ((isSelected t (some f) ≡ true) ↔ SameToken (f .token) t)
+selected-exactly t f = (refl, matches-exactly (f .token) t)
+
+-- a frame is outstanding exactly if it is one of the order's, in flight, and the word of its place holds its submission
+pub outstanding-exactly : (t : FrameToken) (words : List ℕ) (x : Transfer) → (isOutstanding t words x ≡ true)
+    ↔ ((t .frame < x .parcel .frames) × (has (x .sets .«in_flight») (t .frame) ≡ true) × (getD words (27 * x .parcel .n + t .frame) 0 ≡ t .submission .0))
+outstanding-exactly t words x =
+    three (ltb (t .frame) (x .parcel .frames)) (has (x .sets .«in_flight») (t .frame)) (eqb (getD words (27 * x .parcel .n + t .frame) 0) (t .submission .0))
+    (below-exactly (t .frame) (x .parcel .frames))
+    ((λ e. e), (λ e. e))
+    (equal-exactly (getD words (27 * x .parcel .n + t .frame) 0) (t .submission .0))
+
+-- the end of a generation drops its own selected frame, and no other's
+pub unselect-exactly : (g : Generation) (f : PreparedFrame) → (unselect g none ≡ none) × (f .token .generation .0 ≡ g .0 → unselect g (some f) ≡ none) × (f .token .generation .0 ≢ g .0 → unselect g (some f) ≡ some f)
+unselect-exactly g f = (refl, (λ e. pick-true none (some f) (eq-eqb (f .token .generation .0) (g .0) e)), (λ n. pick-false none (some f) (ne-eqb (f .token .generation .0) (g .0) n)))
+
+-- `prepare_prioritized` leaves a selected frame of its echo, and drops one of another
+pub only-echo-exactly : (echo : ℕ) (f : PreparedFrame) → (onlyEcho echo none ≡ none) × (f .«partial_echo» ≡ echo → onlyEcho echo (some f) ≡ some f) × (f .«partial_echo» ≢ echo → onlyEcho echo (some f) ≡ none)
+only-echo-exactly echo f = (refl, (λ e. pick-true (some f) none (eq-eqb (f .«partial_echo») echo e)), (λ n. pick-false (some f) none (ne-eqb (f .«partial_echo») echo n)))
+
 -- ---- what handing in and confirming leave
 
 -- a frame that is handed in leaves what was transmitted and observed, the status, and since when it waits; its block is progress and the last frame's
 pub hands-in-exactly : (frame block : ℕ) (x : Transfer) → let y = inFlight frame block x in
-    (y .sets .transmitted ≡ x .sets .transmitted) × (y .sets .observed ≡ x .sets .observed) × (y .sets .«received_status» ≡ x .sets .«received_status»)
+    SameOrder x y × (y .sets .transmitted ≡ x .sets .transmitted) × (y .sets .observed ≡ x .sets .observed) × (y .sets .«received_status» ≡ x .sets .«received_status»)
     × (y .blocks .«last_progress» ≡ Block block) × (y .blocks .«last_frame» ≡ Block block) × (y .blocks .«waiting_since» ≡ x .blocks .«waiting_since»)
     × ((k : ℕ) → has (y .sets .queue) k ≡ (has (x .sets .queue) k && not (eqb k frame))) × ((k : ℕ) → has (y .sets .«in_flight») k ≡ (has (x .sets .«in_flight») k || eqb k frame))
 hands-in-exactly frame block x = (
+  (refl, refl, refl),
   refl,
   refl,
   refl,
@@ -449,9 +638,10 @@ hands-in-exactly frame block x = (
 
 -- a frame that is confirmed leaves the queue, what is observed, the status and all blocks
 pub confirms-exactly : (frame : ℕ) (x : Transfer) → let y = confirmFrame frame x in
-    (y .sets .queue ≡ x .sets .queue) × (y .sets .observed ≡ x .sets .observed) × (y .sets .«received_status» ≡ x .sets .«received_status») × (y .blocks ≡ x .blocks)
+    SameOrder x y × (y .sets .queue ≡ x .sets .queue) × (y .sets .observed ≡ x .sets .observed) × (y .sets .«received_status» ≡ x .sets .«received_status») × (y .blocks ≡ x .blocks)
     × ((k : ℕ) → has (y .sets .«in_flight») k ≡ (has (x .sets .«in_flight») k && not (eqb k frame))) × ((k : ℕ) → has (y .sets .transmitted) k ≡ (has (x .sets .transmitted) k || eqb k frame))
 confirms-exactly frame x = (
+  (refl, refl, refl),
   refl,
   refl,
   refl,
@@ -459,6 +649,47 @@ confirms-exactly frame x = (
   (λ k. has-without (x .sets .«in_flight») (frameAlone frame) k ∙ ap (λ (t : Bool). has (x .sets .«in_flight») k && not t) (has-alone frame k)),
   (λ k. has-added (x .sets .transmitted) frame k),
 )
+
+-- ---- what a status leaves
+
+-- bit k of a map, below 26, shows frame k + 1, and no bit another
+shows-exactly : (map : ℕ) → (has (shown map) 0 ≡ false) × ((k : ℕ) → has (shown map) (suc k) ≡ (ltb k 26 && has map k))
+shows-exactly map = (bit-lacks (shown map) 0 (bit-first (shown map) ∙ omega arith), λ k. go k (ltb k 26) refl)
+  where
+    low : shown map < 2 ^ 27
+    low = omega arith
+
+    go : (k : ℕ) (t : Bool) → ltb k 26 ≡ t → has (shown map) (suc k) ≡ (t && has map k)
+    go k true e = shown-has map k (ltb-true k 26 e)
+    go k false e = let le = ltb-false k 26 e in bit-lacks (shown map) (suc k) (below-bits 27 (shown map) (suc k) low (omega arith))
+
+-- a Continue that the map shows is observed if it is transmitted or in flight; this is progress, it waits no more, and nothing else is another
+pub observes-exactly : (map block : ℕ) (x : Transfer) → let y = observes map block x in
+    SameOrder x y × (y .sets .queue ≡ x .sets .queue) × (y .sets .«in_flight» ≡ x .sets .«in_flight») × (y .sets .transmitted ≡ x .sets .transmitted) × (y .sets .«received_status» ≡ true)
+    × (y .blocks .«last_progress» ≡ Block block) × (y .blocks .«last_frame» ≡ x .blocks .«last_frame») × (y .blocks .«waiting_since» ≡ Never) × (has (y .sets .observed) 0 ≡ has (x .sets .observed) 0)
+    × ((k : ℕ) → has (y .sets .observed) (suc k) ≡ (has (x .sets .observed) (suc k) || ((ltb k 26 && has map k) && (has (x .sets .transmitted) (suc k) || has (x .sets .«in_flight») (suc k)))))
+observes-exactly map block x = (
+  (refl, refl, refl),
+  refl,
+  refl,
+  refl,
+  refl,
+  refl,
+  refl,
+  refl,
+  more 0 ∙ (ap (λ (t : Bool). has (x .sets .observed) 0 || (t && has w 0)) (shows-exactly map .0) ∙ or-false (has (x .sets .observed) 0)),
+  (λ k. more (suc k) ∙ (ap (λ (t : Bool). has (x .sets .observed) (suc k) || (t && has w (suc k))) (shows-exactly map .1 k) ∙ ap (λ (t : Bool). has (x .sets .observed) (suc k) || ((ltb k 26 && has map k) && t)) (has-or (x .sets .transmitted) (x .sets .«in_flight») (suc k)))),
+)
+  where
+    w : ℕ
+    w = bitOr (x .sets .transmitted) (x .sets .«in_flight»)
+
+    more : (k : ℕ) → has (bitOr (x .sets .observed) (bitAnd (shown map) w)) k ≡ (has (x .sets .observed) k || (has (shown map) k && has w k))
+    more k = has-or (x .sets .observed) (bitAnd (shown map) w) k ∙ ap (λ (t : Bool). has (x .sets .observed) k || t) (has-and (shown map) w k)
+
+    or-false : (t : Bool) → (t || false) ≡ t
+    or-false true = refl
+    or-false false = refl
 
 -- ---- questions
 
@@ -470,7 +701,7 @@ any-exactly p l f = (
 )
 
 -- a transfer is to an identity exactly if it has that type and value
-addressed-exactly : (i : MobileIdentity) (x : Transfer) → (addressed i x ≡ true) ↔ (x .parcel .identity ≡ i)
+pub addressed-exactly : (i : MobileIdentity) (x : Transfer) → (addressed i x ≡ true) ↔ (x .parcel .identity ≡ i)
 addressed-exactly i x = ((λ e. same-equal (x .parcel .identity) i e), (λ e. rw e (same-self i)))
 
 -- `contains`: some live transfer, overdue or not, is to the identity
@@ -489,20 +720,18 @@ radio-active-exactly v = any-exactly (λ x. isSet (x .blocks .«last_progress»)
 pub ready-of-exactly : (v : View) → (readyOf v ≡ true) ↔ Some (λ x. x .sets .queue ≢ 0) (v .transfers)
 ready-of-exactly v = any-exactly isReady (v .transfers) ready-exactly
 
+-- `pending`: as many as are live, whether they have frames queued or not
+pub pending-exactly : (v : View) → pendingOf v ≡ length (v .transfers)
+pending-exactly v = refl
+
 -- `can_enqueue`: at the block and time that are asked for, whatever the clock: the first usable block has come, fewer transfers than the capacity and
 -- fewer events, and some echo is held until then or earlier
 pub can-enqueue-exactly : (v : View) (block now : ℕ) → (canEnqueueOf v block now ≡ true)
     ↔ ((v .limits .«startup_until_block» ≤ block) × (length (v .transfers) < v .limits .capacity) × (length (v .events) < v .limits .capacity) × Some (λ until. until ≤ now) (v .echoes .«echo_until_ms»))
 unfolding canEnqueueOf
 can-enqueue-exactly v block now =
-    go (leb (v .limits .«startup_until_block») block) (ltb (length (v .transfers)) (v .limits .capacity)) (ltb (length (v .events)) (v .limits .capacity)) (any (free now) (v .echoes .«echo_until_ms»))
+    four (leb (v .limits .«startup_until_block») block) (ltb (length (v .transfers)) (v .limits .capacity)) (ltb (length (v .events)) (v .limits .capacity)) (any (free now) (v .echoes .«echo_until_ms»))
     (leb-true (v .limits .«startup_until_block») block, le-leb (v .limits .«startup_until_block») block)
-    (ltb-true (length (v .transfers)) (v .limits .capacity), lt-ltb (length (v .transfers)) (v .limits .capacity))
-    (ltb-true (length (v .events)) (v .limits .capacity), lt-ltb (length (v .events)) (v .limits .capacity))
+    (below-exactly (length (v .transfers)) (v .limits .capacity))
+    (below-exactly (length (v .events)) (v .limits .capacity))
     (any-exactly (free now) (v .echoes .«echo_until_ms») (λ u. (leb-true u now, le-leb u now)))
-  where
-    go : {A B C D : Type 0} (a b c d : Bool) → (a ≡ true) ↔ A → (b ≡ true) ↔ B → (c ≡ true) ↔ C → (d ≡ true) ↔ D → ((a && (b && (c && d))) ≡ true) ↔ (A × B × C × D)
-    go true true true d f g h i = ((λ e. (f .0 refl, g .0 refl, h .0 refl, i .0 e)), (λ k. i .1 (k .3)))
-    go true true false d f g h i = ((λ e. absurd (true-false {x = false} e refl)), (λ k. h .1 (k .2)))
-    go true false c d f g h i = ((λ e. absurd (true-false {x = false} e refl)), (λ k. g .1 (k .1)))
-    go false b c d f g h i = ((λ e. absurd (true-false {x = false} e refl)), (λ k. f .1 (k .0)))

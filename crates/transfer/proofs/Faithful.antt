@@ -1,19 +1,19 @@
 -- Every prepared frame is cut from the message that was accepted for its transfer. Assumes nothing.
 use mathlib.Core.Path.{_≡_, refl, sym, ap, subst, _∙_}
 use mathlib.Core.Logic.{_≢_, ⊎-elim}
-use mathlib.Core.Bool.{Bool, true, false, _||_, true≢false}
+use mathlib.Core.Bool.{Bool, _||_}
 use mathlib.Core.List.{List, [], _∷_, _++_, append-nil, append-assoc}
-use mathlib.Core.Option.{Option, none, some, Option·none-ne-some}
+use mathlib.Core.Option.{Option, none, some}
 use Prim.Native.Nat.{ℕ, _+_, _-_, _*_, _≤_, _<_}
 use native.Mathlib.Omega.{arith}
 use lib.Dec.{eqb, ltb}
-use lib.ListN.{length, take, drop, getD, length-append, length-drop, take-append-drop}
+use lib.ListN.{length, take, drop, length-append, length-drop, take-append-drop}
 use lib.Seq.{length-take-le, take-append-seam, take-append-le, drop-append-le, drop-append-add, drop-drop, drop-at}
 use borrow.Author.Tests.{ltb-true, ltb-false}
 use Rattle.spach.specs.Refusal.{gives}
 use Rattle.spach.proofs.Outcomes.{passed}
 use Rattle.arq.specs.declared.PackedFrame.{PackedFrame}
-use Rattle.receiver.proofs.Ways.{by-bool}
+use Rattle.receiver.proofs.PushCases.{by-bool}
 use Rattle.transfer.specs.declared.TransferToken.{TransferToken}
 use Rattle.transfer.specs.declared.Generation.{Generation}
 use Rattle.transfer.specs.declared.Request.{Request}
@@ -21,24 +21,20 @@ use Rattle.transfer.specs.declared.Parcel.{Parcel}
 use Rattle.transfer.specs.declared.Transfer.{Transfer}
 use Rattle.transfer.specs.declared.PreparedFrame.{PreparedFrame}
 use Rattle.transfer.specs.Queue.{oneLeft}
-use Rattle.transfer.specs.State.{View, Lent, Out, fresh, newOf, withEchoes, tokenTaken, short, admitted, goesOn, blankTransfer, cancelAt}
+use Rattle.transfer.specs.State.{View, Lent, fresh, newOf, withEchoes, tokenTaken}
 use Rattle.transfer.specs.Echo.{heldUntil, hold}
 use Rattle.transfer.specs.Transfer.{messageOf, begun}
-use Rattle.transfer.specs.Advance.{kept, advanceOf}
-use Rattle.transfer.specs.Enqueue.{addressed, Grant, grantOf, lowestN, parcelOf, stored, accepts, enqueueOf}
-use Rattle.transfer.specs.Prepare.{packedOf, frontOf, preparedOf, prepareOf, interruptOf, preparePrioritizedOf}
-use Rattle.transfer.specs.Submitted.{submittedOf, transmittedOf}
-use Rattle.transfer.specs.Status.{statusOf}
-use Rattle.transfer.specs.Cancel.{cancelOf, ownedBy, cancelTransactionOf, cancelAllOf}
-use Rattle.transfer.specs.Refresh.{refreshWaitingOf}
-use Rattle.transfer.specs.Queries.{popEventOf}
+use Rattle.transfer.specs.Advance.{kept}
+use Rattle.transfer.specs.Enqueue.{lowestN, parcelOf, stored}
+use Rattle.transfer.specs.Prepare.{packedOf, frontOf, preparedOf}
 use Rattle.transfer.specs.Invariant.{All, all-none, all-more, Some, some-here, some-later, Live, Different, Sound}
-use Rattle.transfer.specs.History.{Call, Enqueue, Advance, Prepare, Interrupt, PreparePrioritized, Submitted, Transmitted, Status, Cancel, CancelTransaction, CancelAll, RefreshWaiting, PopEvent, does, Fresh, runAlone, Accepts, Traced, Faithful}
+use Rattle.transfer.specs.History.{Call, Acceptance, Done, does, Fresh, runAlone, Accepts, Traced, Faithful}
 use Rattle.transfer.proofs.Listed.{all-map, all-head, all-tail, all-both, all-one, all-left, pairs-one}
 use Rattle.transfer.proofs.Alive.{SameParcel}
-use Rattle.transfer.proofs.Kept.{different-sym, seek-cases, admitted-kept, admitted-tokens, grant-passes, accepts-kept}
+use Rattle.transfer.proofs.Invariant.{different-sym}
 use Rattle.transfer.proofs.Lives.{does-kept, fresh-kept}
-use Rattle.transfer.proofs.Carried.{out-cases, Lasting, Drawn, Right, Carries, right-in, Shown, admitted-carries, advance-carries, prepare-carries, prepare-prioritized-carries, interrupt-carries, submitted-carries, transmitted-carries, status-carries, cancelled-carries, cancel-first-carries, cancel-all-carries, refresh-waiting-carries, pop-event-carries}
+use Rattle.transfer.proofs.Moves.{Last, silent, tells-one, accepts-one, takes-one, last-told, does-leaves}
+use Rattle.transfer.proofs.Carried.{Lasting, Drawn, Right, Carries, right-in, moves-carries}
 
 -- ---- the lent octets
 
@@ -124,10 +120,9 @@ pub accepts-more : (v : View) (m : Lent) (calls more : List Call) (r : Request) 
 accepts-more v m calls more r message t a =
     record {
       earlier = a .earlier;
+      call = a .call;
       later = a .later ++ more;
-      block = a .block;
-      ms = a .ms;
-      split = ap (λ (l : List Call). l ++ more) (a .split) ∙ append-assoc (a .earlier) (Enqueue r message (a .block) (a .ms) ∷ a .later) more;
+      split = ap (λ (l : List Call). l ++ more) (a .split) ∙ append-assoc (a .earlier) (a .call ∷ a .later) more;
       accepted = a .accepted;
     }
 
@@ -154,30 +149,29 @@ some-which : {A : Type 0} {P Q : A → Type 0} {l : List A} → Some P l → All
 some-which (some-here {x = x} p) k = (x, some-here refl, p, all-head k)
 some-which (some-later h) k = let r = some-which h (all-tail k) in (r .0, some-later (r .1), r .2, r .3)
 
--- what is let through has a store that is long enough
-admitted-long : (v : View) (m : Lent) (block now : ℕ) {w : View} → admitted v m block now ≡ gives w → 32640 ≤ length (m .octets)
-admitted-long v m block now e = go (ltb (length (m .octets)) 32640) (ltb (length (m .words)) 3456) refl (passed (short m) 16 _ e .0)
+-- the message of a transfer that begins is put into a part of its own
+pub begun-stored : (octets : List ℕ) (r : Request) (message : List ℕ) (frames echo t : ℕ) (u : View) → let n = lowestN (u .transfers) in let y = begun (parcelOf r message frames n t) echo t in
+    32640 ≤ length octets → Sound (kept (tokenTaken u) y) → All (λ x. messageOf x (stored octets n message) ≡ messageOf x octets) (u .transfers) × (messageOf y (stored octets n message) ≡ message)
+begun-stored octets r message frames echo t u long s =
+    (all-map (λ x d. stored-other octets n message (x .parcel .n) (x .parcel .octets) low (alive .accepted .most-octets) (d .1 .accepted .most-octets) (d .0 .place)) (all-both others (all-left l (y ∷ []) (s .transfers))), stored-own octets n message low)
   where
-    go : (a b : Bool) → ltb (length (m .octets)) 32640 ≡ a → (a || b) ≡ false → 32640 ≤ length (m .octets)
-    go true b q h = absurd (true≢false h)
-    go false b q h = ltb-false (length (m .octets)) 32640 q
+    l : List Transfer
+    l = u .transfers
 
--- a call that says a frame is one of the two that prepare
-pub said-cases : (P : Call → Type 0) (v : View) (m : Lent) (f : PreparedFrame) → ((block now : ℕ) → does v m (Prepare block now) .frame ≡ some f → P (Prepare block now))
-    → ((echo block now : ℕ) → does v m (PreparePrioritized echo block now) .frame ≡ some f → P (PreparePrioritized echo block now)) → (c : Call) → does v m c .frame ≡ some f → P c
-said-cases P v m f h k (Prepare block now) e = h block now e
-said-cases P v m f h k (PreparePrioritized echo block now) e = k echo block now e
-said-cases P v m f h k (Enqueue r message block now) e = absurd (Option·none-ne-some f e)
-said-cases P v m f h k (Advance block now) e = absurd (Option·none-ne-some f e)
-said-cases P v m f h k (Interrupt echo block now) e = absurd (Option·none-ne-some f e)
-said-cases P v m f h k (Submitted t block now) e = absurd (Option·none-ne-some f e)
-said-cases P v m f h k (Transmitted t block now) e = absurd (Option·none-ne-some f e)
-said-cases P v m f h k (Status s block now) e = absurd (Option·none-ne-some f e)
-said-cases P v m f h k (Cancel i) e = absurd (Option·none-ne-some f e)
-said-cases P v m f h k (CancelTransaction t) e = absurd (Option·none-ne-some f e)
-said-cases P v m f h k CancelAll e = absurd (Option·none-ne-some f e)
-said-cases P v m f h k (RefreshWaiting block now) e = absurd (Option·none-ne-some f e)
-said-cases P v m f h k PopEvent e = absurd (Option·none-ne-some f e)
+    n : ℕ
+    n = lowestN l
+
+    y : Transfer
+    y = begun (parcelOf r message frames n t) echo t
+
+    alive : Live (u .limits) (u .clock) (u .echoes) (tokenTaken u .«next_token») y
+    alive = all-one l y [] (s .transfers)
+
+    low : 255 * n ≤ length octets
+    low = let p = alive .place in let q = s .most-capacity in omega arith
+
+    others : All (Different (u .clock) y) l
+    others = subst (All (Different (u .clock) y)) (append-nil l) (pairs-one (different-sym (u .clock)) l y [] (s .different))
 
 module _ (v : View) (m : Lent) where
   -- both
@@ -207,125 +201,47 @@ module _ (v : View) (m : Lent) where
 
   -- ---- enqueue
 
-  module _ (calls : List Call) (c : Call) (w : View) (lent : Lent) (r : Request) (message : List ℕ) where
-    -- what `enqueue` leaves, if the token that it says is that of an acceptance
-    abbrev Left : Out TransferToken → Type 0
-    Left o = ((t : TransferToken) → o .outcome ≡ gives t → Accepts v m (calls ++ c ∷ []) r message t) → Holds (calls ++ c ∷ []) (o .lent .octets) (o .sender)
-
+  module _ (calls : List Call) (c : Call) (octets : List ℕ) (r : Request) (message : List ℕ) where
     -- a transfer begins, of a part of its own
     begins-holds : (frames echo t : ℕ) (u : View) → let n = lowestN (u .transfers) in let y = begun (parcelOf r message frames n t) echo t in
-        Accepts v m (calls ++ c ∷ []) r message (record { 0 = t }) → 32640 ≤ length (lent .octets) → Sound (kept (tokenTaken u) y) → Holds calls (lent .octets) u → Holds (calls ++ c ∷ []) (stored (lent .octets) n message) (kept (tokenTaken u) y)
-    begins-holds frames echo t u a long s h = right-in (traces (calls ++ c ∷ []) o) l y [] (u .selected) new (subst (λ z. Right (traces (calls ++ c ∷ []) o) z (u .selected)) (sym (append-nil l)) k)
-      where
-        l : List Transfer
-        l = u .transfers
+        Accepts v m (calls ++ c ∷ []) r message (record { 0 = t }) → 32640 ≤ length octets → Sound (kept (tokenTaken u) y) → Holds calls octets u → Holds (calls ++ c ∷ []) (stored octets n message) (kept (tokenTaken u) y)
+    begins-holds frames echo t u a long s h =
+        let n = lowestN (u .transfers) in
+        let y = begun (parcelOf r message frames n t) echo t in
+        let o = stored octets n message in
+        let b = begun-stored octets r message frames echo t u long s in
+        let k : Holds (calls ++ c ∷ []) o u = holds-more calls (c ∷ []) octets o u (b .0) h in
+        right-in (traces (calls ++ c ∷ []) o) (u .transfers) y [] (u .selected) (record { request = r; message = message; accepted = a; identity = refl; channel = refl; deadline = refl; held = b .1 })
+        (subst (λ z. Right (traces (calls ++ c ∷ []) o) z (u .selected)) (sym (append-nil (u .transfers))) k)
 
-        n : ℕ
-        n = lowestN l
-
-        y : Transfer
-        y = begun (parcelOf r message frames n t) echo t
-
-        o : List ℕ
-        o = stored (lent .octets) n message
-
-        alive : Live (u .limits) (u .clock) (u .echoes) (tokenTaken u .«next_token») y
-        alive = all-one l y [] (s .transfers)
-
-        low : 255 * n ≤ length (lent .octets)
-        low = let p = alive .place in let q = s .most-capacity in omega arith
-
-        others : All (Different (u .clock) y) l
-        others = subst (All (Different (u .clock) y)) (append-nil l) (pairs-one (different-sym (u .clock)) l y [] (s .different))
-
-        apart : All (λ x. messageOf x o ≡ messageOf x (lent .octets)) l
-        apart = all-map (λ x d. stored-other (lent .octets) n message (x .parcel .n) (x .parcel .octets) low (alive .accepted .most-octets) (d .1 .accepted .most-octets) (d .0 .place)) (all-both others (all-left l (y ∷ []) (s .transfers)))
-
-        k : Holds (calls ++ c ∷ []) o u
-        k = holds-more calls (c ∷ []) (lent .octets) o u apart h
-
-        new : From v m (calls ++ c ∷ []) o (y .parcel)
-        new = record { request = r; message = message; accepted = a; identity = refl; channel = refl; deadline = refl; held = stored-own (lent .octets) n message low }
-
-    -- a request that passes
-    accepts-holds : (g : Grant) → 32640 ≤ length (lent .octets) → Sound (accepts w lent r message g .sender) → Holds calls (lent .octets) w → Left (accepts w lent r message g)
-    unfolding accepts
-    accepts-holds g long s h a =
-        seek-cases {X = View} P (addressed (r .identity)) (u .transfers) u (cancelAt u)
-        (λ n q k. begins-holds (g .frames) (g .echo) (w .«next_token») u token long q k)
-        (λ i lt t q k. begins-holds (g .frames) (g .echo) (w .«next_token») (cancelAt u i (getD (w .transfers) i blankTransfer)) token long q (cancelled-carries (traces calls (lent .octets)) u i lt k)) s h
-      where
-        token : Accepts v m (calls ++ c ∷ []) r message (record { 0 = w .«next_token» })
-        token = a (record { 0 = w .«next_token» }) refl
-
-        u : View
-        u = withEchoes w (hold (w .echoes) (g .echo) (heldUntil (w .limits) (r .«deadline_ms»)))
-
-        y : View → Transfer
-        y z = begun (parcelOf r message (g .frames) (lowestN (z .transfers)) (w .«next_token»)) (g .echo) (w .«next_token»)
-
-        P : View → Type 0
-        P z = Sound (kept (tokenTaken z) (y z)) → Holds calls (lent .octets) w → Holds (calls ++ c ∷ []) (stored (lent .octets) (lowestN (z .transfers)) message) (kept (tokenTaken z) (y z))
-
-  -- `enqueue`
-  enqueue-holds : (calls : List Call) (w : View) (lent : Lent) (r : Request) (message : List ℕ) (block now : ℕ) → ((t : TransferToken) → enqueueOf w lent r message block now .outcome ≡ gives t → Accepts v m (calls ++ Enqueue r message block now ∷ []) r message t)
-      → Sound w → Holds calls (lent .octets) w → Holds (calls ++ Enqueue r message block now ∷ []) (enqueueOf w lent r message block now .lent .octets) (enqueueOf w lent r message block now .sender)
-  unfolding enqueueOf
-  enqueue-holds calls w lent r message block now a s h = out-cases (Left calls c w lent r message) w lent (admitted w lent block now) (λ u. goesOn u lent (grantOf u r message) (accepts u lent r message)) (λ n q. holds-called calls c (lent .octets) w h) goes a
-    where
-      c : Call
-      c = Enqueue r message block now
-
-      goes : (u : View) → admitted w lent block now ≡ gives u → Left calls c w lent r message (goesOn u lent (grantOf u r message) (accepts u lent r message))
-      goes u e =
-          let k : Holds calls (lent .octets) u = admitted-carries (traces calls (lent .octets)) w lent block now e h in
-          let n = admitted-tokens w lent block now e in
-          let z = admitted-kept w lent block now e s in
-          out-cases (Left calls c w lent r message) u lent (grantOf u r message) (accepts u lent r message) (λ n q. holds-called calls c (lent .octets) u k)
-          (λ g q. accepts-holds calls c u lent r message g (admitted-long w lent block now e) (accepts-kept u lent r message g (grant-passes u r message q) (omega arith) z) k)
+  -- what a call does last, if what it accepts is accepted
+  last-holds : (calls : List Call) (c : Call) {octets : List ℕ} {w : View} {d : Done} → Last octets w c d
+      → ((x : Acceptance) → d .accepted ≡ some x → Accepts v m (calls ++ c ∷ []) (x .request) (x .message) (x .token)) → Sound (d .sender) → Holds calls octets w → Holds (calls ++ c ∷ []) (d .lent .octets) (d .sender)
+  last-holds calls c {octets} {w = w} silent k s h = holds-called calls c octets w h
+  last-holds calls c {octets} {w = w} (tells-one f e p) k s h = holds-called calls c octets w h
+  last-holds calls c {octets} {w = w} (accepts-one r message g i long p) k s h =
+      let t = w .«next_token» in
+      begins-holds calls c octets r message (g .frames) (g .echo) t (withEchoes w (hold (w .echoes) (g .echo) (heldUntil (w .limits) (r .«deadline_ms»)))) (k (record { token = record { 0 = t }; request = r; message = message }) refl) long s h
+  last-holds calls c {octets} {d = d} (takes-one e l q) k s h = holds-called calls c octets (d .sender) h
 
   -- ---- every call
 
   module _ (calls : List Call) (w : View) (lent : Lent) (h : Holds calls (lent .octets) w) where
-    -- the octets
-    abbrev o : List ℕ
-    o = lent .octets
+    -- what a call accepts is accepted
+    accepted-call : (c : Call) → runAlone v m calls ≡ (w, lent) → (x : Acceptance) → does w lent c .accepted ≡ some x → Accepts v m (calls ++ c ∷ []) (x .request) (x .message) (x .token)
+    accepted-call c e x q = record { earlier = calls; call = c; later = []; split = refl; accepted = subst (λ (y : View × Lent). does (y .0) (y .1) c .accepted ≡ some x) (sym e) q }
 
-    -- the frame of `prepare` is selected then
-    prepare-shown : (block now : ℕ) → Shown (traces calls o) (prepareOf w lent block now)
-    prepare-shown block now = prepare-carries (traces calls o) w lent h (cut-front o) block now
-
-    -- and that of `prepare_prioritized`
-    prioritized-shown : (echo block now : ℕ) → Shown (traces calls o) (preparePrioritizedOf w lent echo block now)
-    prioritized-shown echo block now = prepare-prioritized-carries (traces calls o) w lent h (cut-front o) echo block now
+    -- before what it does last
+    middle-holds : (c : Call) (s : Sound w) → Holds calls (lent .octets) (does-leaves w lent c s .middle)
+    middle-holds c s = moves-carries (traces calls (lent .octets)) (cut-front (lent .octets)) (does-leaves w lent c s .quietly .made) h
 
     -- each call
     does-holds : (c : Call) → runAlone v m calls ≡ (w, lent) → Sound w → Holds (calls ++ c ∷ []) (does w lent c .lent .octets) (does w lent c .sender)
-    unfolding cancelOf cancelTransactionOf
-    does-holds (Enqueue r message block now) e s =
-        enqueue-holds calls w lent r message block now
-        (λ t q. record { earlier = calls; later = []; block = block; ms = now; split = refl; accepted = subst (λ p. enqueueOf (p .0) (p .1) r message block now .outcome ≡ gives t) (sym e) q }) s h
-    does-holds (Advance block now) e s = holds-called calls (Advance block now) o (advanceOf w lent block now .state) (advance-carries (traces calls o) w lent block now h)
-    does-holds (Prepare block now) e s = holds-called calls (Prepare block now) o (prepareOf w lent block now .state) (prepare-shown block now .0)
-    does-holds (Interrupt echo block now) e s = holds-called calls (Interrupt echo block now) o (interruptOf w lent echo block now .state) (interrupt-carries (traces calls o) w lent echo block now h)
-    does-holds (PreparePrioritized echo block now) e s = holds-called calls (PreparePrioritized echo block now) o (preparePrioritizedOf w lent echo block now .state) (prioritized-shown echo block now .0)
-    does-holds (Submitted t block now) e s =
-        let k = submitted-carries (traces calls o) w lent t block now h in
-        let d = submittedOf w lent t block now in
-        subst (λ l. Holds (calls ++ Submitted t block now ∷ []) l (d .sender)) (sym (k .1)) (holds-called calls (Submitted t block now) o (d .sender) (k .0))
-    does-holds (Transmitted t block now) e s = holds-called calls (Transmitted t block now) o (transmittedOf w lent t block now .state) (transmitted-carries (traces calls o) w lent t block now h)
-    does-holds (Status q block now) e s = holds-called calls (Status q block now) o (statusOf w lent q block now .state) (status-carries (traces calls o) w lent q block now h)
-    does-holds (Cancel i) e s = holds-called calls (Cancel i) o (cancelOf w i .state) (cancel-first-carries (traces calls o) (addressed i) w h)
-    does-holds (CancelTransaction t) e s = holds-called calls (CancelTransaction t) o (cancelTransactionOf w t .state) (cancel-first-carries (traces calls o) (ownedBy t) w h)
-    does-holds CancelAll e s = holds-called calls CancelAll o (cancelAllOf w) (cancel-all-carries (traces calls o) w)
-    does-holds (RefreshWaiting block now) e s = holds-called calls (RefreshWaiting block now) o (refreshWaitingOf w lent block now .state) (refresh-waiting-carries (traces calls o) w lent block now h)
-    does-holds PopEvent e s = holds-called calls PopEvent o (popEventOf w .state) (pop-event-carries (traces calls o) w h)
+    does-holds c e s = last-holds calls c (does-leaves w lent c s .last) (accepted-call c e) (does-kept w lent c s) (middle-holds c s)
 
-    -- a frame that is said is selected then, and the transfers and the selection come from the calls before
-    said : (c : Call) (f : PreparedFrame) → does w lent c .frame ≡ some f → Holds calls o (does w lent c .sender) × (does w lent c .sender .selected ≡ some f)
-    said c f =
-        said-cases (λ c. Holds calls o (does w lent c .sender) × (does w lent c .sender .selected ≡ some f)) w lent f
-        (λ block now e. let k = prepare-shown block now in (k .0, k .1 f e)) (λ echo block now e. let k = prioritized-shown echo block now in (k .0, k .1 f e)) c
+    -- a frame that is told is selected then, and the transfers and the selection come from the calls before
+    told : (c : Call) (f : PreparedFrame) → Sound w → does w lent c .frame ≡ some f → Holds calls (lent .octets) (does w lent c .sender) × (does w lent c .sender .selected ≡ some f)
+    told c f s e = let l = last-told f (does-leaves w lent c s .last) e in (subst (Holds calls (lent .octets)) (l .0) (middle-holds c s), l .1)
 
   -- a selected frame is traced
   traced : (calls : List Call) (octets : List ℕ) (w : View) (f : PreparedFrame) → Holds calls octets w → w .selected ≡ some f → Traced v m calls w f
@@ -389,7 +305,7 @@ pub faithful : Faithful
 faithful v m calls c f fr e =
     let at = runAlone v m calls in
     let h = after-fresh v m calls fr in
-    let k = said v m calls (at .0) (at .1) (h .1) c f e in
+    let k = told v m calls (at .0) (at .1) (h .1) c f (h .0) e in
     traced v m calls (at .1 .octets) (does (at .0) (at .1) c .sender) f (k .0) (k .1)
 
 -- a transfer with the request and the message that were accepted under its owner's token: its deadline is the request's
@@ -403,4 +319,5 @@ pub ordered : (v : View) (m : Lent) (calls : List Call) (c : Call) (f : Prepared
     d .frame ≡ some f → All (Ordered v m calls) (d .sender .transfers)
 ordered v m calls c f fr e =
     let at = runAlone v m calls in
-    all-map (λ x h. (h .request, h .message, h .accepted, h .deadline)) (said v m calls (at .0) (at .1) (after-fresh v m calls fr .1) c f e .0 .0)
+    let k = after-fresh v m calls fr in
+    all-map (λ x h. (h .request, h .message, h .accepted, h .deadline)) (told v m calls (at .0) (at .1) (k .1) c f (k .0) e .0 .0)

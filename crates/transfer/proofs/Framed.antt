@@ -8,7 +8,8 @@ use lib.ListN.{take, drop}
 use Rattle.spach.specs.declared.SpachError.{SpachError}
 use Rattle.spach.specs.declared.Verdict.{Verdict}
 use Rattle.spach.specs.declared.Verdict.the-variants.{Accepted, Refused}
-use Rattle.spach.specs.Refusal.{Outcome, refuses, numberOf, verdictOf, answered}
+use Rattle.spach.specs.Refusal.{Outcome, refuses, numberOf, verdictOf}
+use Rattle.spach.specs.Answered.{answered}
 use Rattle.spach.proofs.Outcomes.{answered-gives, answered-refuses}
 use Rattle.arq.specs.declared.ArqHeader.{ArqHeader}
 use Rattle.arq.specs.declared.ArqFrame.{ArqFrame}

@@ -40,7 +40,7 @@ use Rattle.receiver.specs.Receiver as receivers
 use Rattle.receiver.specs.Receiver.{Out, sameOctets, pushOf, statusAnswer}
 use Rattle.receiver.specs.Demand3.{Push, CutFrom, Such, OfCut, Fitting, Delivered, Undelivered, Delivers, Silent, runs, Holds}
 use Rattle.receiver.proofs.Heard.{frame-is}
-use Rattle.receiver.proofs.Ways.{by-bool, true-false, same-octets, octets-same, kinds-apart}
+use Rattle.receiver.proofs.PushCases.{by-bool, true-false, same-octets, octets-same, kinds-apart}
 use Rattle.receiver.proofs.Whole.{demand3}
 use Rattle.transfer.specs.declared.Request.{Request}
 use Rattle.transfer.specs.declared.Transfer.{Transfer}
@@ -52,10 +52,11 @@ use Rattle.transfer.specs.History.{Call, Enqueue, does, Told, after, run
 use Rattle.transfer.specs.Gate.{doing, Sent, timesOf, InTime, Listens, GetsOwn, InOctets, Gate, told, StartsLate, LateFrames, SentByTwo, timesOfTwo, GateOfTwo}
 use Rattle.transfer.proofs.Listed.{some-all}
 use Rattle.transfer.proofs.Lives.{fresh-kept}
+use Rattle.transfer.proofs.Moves.{last-accepted, does-leaves}
 use Rattle.transfer.proofs.Taken.{taken-free}
 use Rattle.transfer.proofs.Holds.{only-taken}
 use Rattle.transfer.proofs.Faithful.{accepts-more, fresh-is, faithful}
-use Rattle.transfer.proofs.Remarks.{cut-gives}
+use Rattle.transfer.proofs.Refusals.{cut-gives}
 use Rattle.transfer.proofs.Orders.{doing-later, run-later, run-behind, hold-late, between-later, first-of-second, one-order}
 
 -- ---- what a prepared frame decodes to
@@ -260,6 +261,13 @@ module _ (v : View) (m : Lent) (calls : List Call) (fr : Fresh v) where
         subst (λ k. Accepts v m k (order .request) (order .message) (order .transfer .parcel .owner)) (sym (h .begin .split))
         (accepts-more v m (h .begin .earlier) (h .begin .call ∷ h .begin .later) (order .request) (order .message) (order .transfer .parcel .owner) (order .accepted))
 
+    -- by an `enqueue`
+    enqueued : (block : ℕ) × (now : ℕ) × (accepted .call ≡ Enqueue (order .request) (order .message) block now)
+    enqueued =
+        let at = runAlone v m (accepted .earlier) in
+        let k = last-accepted (record { token = order .transfer .parcel .owner; request = order .request; message = order .message }) (does-leaves (at .0) (at .1) (accepted .call) (run-later v m (accepted .earlier) (fresh-kept v fr) .0) .last) (accepted .accepted) in
+        (k .0, k .1, k .2)
+
     -- each such Continue is one of its cut
     piece : (f : ArqFrame) → List·Memᴰ f (h .rest) → Such i b f → OfCut (headerOf (order .request .channel) (order .transfer .echo) (begins .polling)) i (order .message) f
     piece f j su =
@@ -274,7 +282,7 @@ module _ (v : View) (m : Lent) (calls : List Call) (fr : Fresh v) where
     fitting : Fitting i (order .message) b l
     fitting =
         record {
-          octets = oc (order .request) (order .message) (accepted .block) (accepted .ms) (subst (List·Memᴰ (Enqueue (order .request) (order .message) (accepted .block) (accepted .ms))) (sym (accepted .split)) (Memᴰ·append-right (accepted .earlier) (List·Memᴰ·head refl)));
+          octets = oc (order .request) (order .message) (enqueued .0) (enqueued .1) (subst (λ c. List·Memᴰ c calls) (enqueued .2) (subst (List·Memᴰ (accepted .call)) (sym (accepted .split)) (Memᴰ·append-right (accepted .earlier) (List·Memᴰ·head refl))));
           size = cut-polled (order .request .channel) (order .transfer .echo) (begins .polling) (begins .polling) (order .request .identity) (order .message) (h .begin .frame .token .frame) (begins .cut) .0;
           rest = h .rest;
           first = h .first;

@@ -178,10 +178,6 @@ module _ {A : Type 0} where
     pub some-removed : {P : A → Type 0} → Some P l → P (getD l i d) ⊎ Some P (removeAt i l)
     some-removed {P} k = some-out (take i l) (getD l i d) (drop (suc i) l) (subst (Some P) (split-at l i d h) k)
 
-    -- the others among themselves
-    pub pairs-removed : {R : A → A → Type 0} → Pairs R l → Pairs R (removeAt i l)
-    pairs-removed {R} k = pairs-rest (take i l) (getD l i d) (drop (suc i) l) (subst (Pairs R) (split-at l i d h) k)
-
     -- the one at the place with every other
     pub pairs-at : {R : A → A → Type 0} → ((x y : A) → R x y → R y x) → Pairs R l → All (R (getD l i d)) (removeAt i l)
     pairs-at {R} s k = pairs-one s (take i l) (getD l i d) (drop (suc i) l) (subst (Pairs R) (split-at l i d h) k)

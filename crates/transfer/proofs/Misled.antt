@@ -28,7 +28,7 @@ use Rattle.receiver.specs.Receiver as receivers
 use Rattle.receiver.specs.Receiver.{Out, slotAt, putSlot, gathered, assembled, finish, pushContinue, pushFrame, pushOf, statusAnswer}
 use Rattle.receiver.specs.Demand3.{Push, heard, BeginFor, Such, Delivers, runs}
 use Rattle.receiver.proofs.Instance.{octetsIn, small, small-octets}
-use Rattle.receiver.proofs.Ways.{kinds-apart}
+use Rattle.receiver.proofs.PushCases.{kinds-apart}
 use Rattle.transfer.specs.declared.FrameToken.{FrameToken}
 use Rattle.transfer.specs.declared.Request.{Request}
 use Rattle.transfer.specs.declared.Transfer.{Transfer}
@@ -108,8 +108,8 @@ abbrev accepted : List Call
 accepted = Enqueue (request 1 5000) order 20 100 ∷ Enqueue (request 2 5000) others 20 100 ∷ []
 
 -- the gate's Begin is prepared, and then the neighbour's
-abbrev begun : List Call
-begun = Prepare 20 100 ∷ Submitted (tokenOf 100 102 0) 20 100 ∷ Prepare 21 140 ∷ Submitted (tokenOf 101 103 0) 21 140 ∷ []
+abbrev started : List Call
+started = Prepare 20 100 ∷ Submitted (tokenOf 100 102 0) 20 100 ∷ Prepare 21 140 ∷ Submitted (tokenOf 101 103 0) 21 140 ∷ []
 
 -- then the Continues
 abbrev continued : List Call
@@ -117,7 +117,7 @@ continued = Prepare 22 180 ∷ Submitted (tokenOf 100 104 1) 22 180 ∷ Prepare 
 
 -- all of it
 calls : List Call
-calls = accepted ++ begun ++ continued
+calls = accepted ++ started ++ continued
 
 -- the Begin was sent
 begin-sent : Sent sender lends calls (widened begin)
@@ -136,7 +136,7 @@ begin-sent = record {
 other-sent : Sent sender lends calls other-continue
 unfolding calls runAlone octets bitsOf bits value field layout upTo anySet same inRange encodable packed beginFrame continueFrame encodeOf decodeOf headerAAt addressAt countOf frameOf ones onesIn trailingZeros freeEcho doneOf settleOf fateOf step walk walked grantOf accepts enqueueOf packedOf choose prepareOf submittedAt submittedOf
 other-sent = record {
-  earlier = accepted ++ begun ++ Prepare 22 180 ∷ Submitted (tokenOf 100 104 1) 22 180 ∷ [];
+  earlier = accepted ++ started ++ Prepare 22 180 ∷ Submitted (tokenOf 100 104 1) 22 180 ∷ [];
   call = Prepare 23 220;
   later = [];
   split = refl;
@@ -149,7 +149,7 @@ other-sent = record {
 continue-sent : Sent sender lends calls continue
 unfolding calls runAlone octets bitsOf bits value field layout upTo anySet same inRange encodable packed beginFrame continueFrame encodeOf decodeOf headerAAt addressAt countOf frameOf ones onesIn trailingZeros freeEcho doneOf settleOf fateOf step walk walked grantOf accepts enqueueOf packedOf choose prepareOf submittedAt submittedOf
 continue-sent = record {
-  earlier = accepted ++ begun;
+  earlier = accepted ++ started;
   call = Prepare 22 180;
   later = Submitted (tokenOf 100 104 1) 22 180 ∷ Prepare 23 220 ∷ [];
   split = refl;

@@ -3,91 +3,32 @@ use mathlib.Core.Path.{_≡_, refl, sym, ap, subst, _∙_}
 use mathlib.Core.Logic.{_⊎_, inl, inr, ⊎-elim}
 use mathlib.Core.Bool.{false}
 use mathlib.Core.List.{List, [], _∷_, _++_}
-use mathlib.Core.Option.{Option, none, some, Option·none-ne-some}
+use mathlib.Core.Option.{some}
 use Prim.Native.Nat.{ℕ, _+_, _≤_, _<_}
 use native.Mathlib.Omega.{arith}
-use lib.Dec.{leb}
-use lib.ListN.{getD}
 use borrow.Author.Tests.{leb-false}
-use Rattle.spach.specs.Refusal.{Outcome, gives, refuses, andThen, After, onward}
-use Rattle.arq.specs.declared.PackedFrame.{PackedFrame}
+use Rattle.spach.specs.Refusal.{gives, andThen}
 use Rattle.arq.specs.Encode.{encodeOf}
 use Rattle.arq.specs.Cut.{frameOf}
 use Rattle.transfer.specs.declared.Request.{Request}
 use Rattle.transfer.specs.declared.Parcel.{Parcel}
 use Rattle.transfer.specs.declared.Transfer.{Transfer}
 use Rattle.transfer.specs.declared.PreparedFrame.{PreparedFrame}
-use Rattle.transfer.specs.Lists.{removeAt}
-use Rattle.transfer.specs.State.{Limits, Clock, View, Lent, withTransfers, withSelected, admitted, says, blankTransfer}
+use Rattle.transfer.specs.State.{Limits, View, Lent}
 use Rattle.transfer.specs.Echo.{heldUntil}
 use Rattle.transfer.specs.Transfer.{headerOf}
-use Rattle.transfer.specs.Advance.{overdue, walked}
-use Rattle.transfer.specs.Prepare.{isReady, frontOf, selects, chooseFrom, choose, prepareOf, repeated, onlyEcho, prioritizeAt, preparePrioritizedOf}
-use Rattle.transfer.specs.Invariant.{All, all-more, Some, Pairs, Different, Sound}
-use Rattle.transfer.specs.History.{Call, Done, does, frameIn, Fresh, holdOf, runAlone, Accepts, IsFrameOf, Traced}
+use Rattle.transfer.specs.Advance.{overdue}
+use Rattle.transfer.specs.Invariant.{All, Some, Pairs, Different, Sound}
+use Rattle.transfer.specs.History.{Call, Done, does, Fresh, holdOf, runAlone, Accepts, IsFrameOf, Traced}
 use Rattle.transfer.specs.Gate.{doing, HeldFor, OneOrder}
-use Rattle.transfer.proofs.Listed.{all-map, all-both, all-one, all-rest, all-at, all-removed, some-map, some-all, some-out, some-split, pairs-one}
-use Rattle.transfer.proofs.Alive.{SameParcel, repeated-parcel}
-use Rattle.transfer.proofs.Kept.{different-sym, seek-cases, prioritize-cases, admitted-kept}
-use Rattle.transfer.proofs.Walked.{walked-near}
-use Rattle.transfer.proofs.Again.{walked-rests}
+use Rattle.transfer.proofs.Listed.{all-both, all-one, all-rest, some-map, some-all, some-out, some-split, pairs-one}
+use Rattle.transfer.proofs.Alive.{SameParcel}
+use Rattle.transfer.proofs.Invariant.{different-sym}
 use Rattle.transfer.proofs.Lives.{does-kept, fresh-kept}
+use Rattle.transfer.proofs.Moves.{Prompt, last-told, does-leaves}
 use Rattle.transfer.proofs.Taken.{Careful, does-careful}
 use Rattle.transfer.proofs.Once.{accepted-once}
-use Rattle.transfer.proofs.Faithful.{accepts-more, said-cases, faithful, ordered}
-
--- ---- a call that prepares a frame leaves no transfer overdue
-
--- none of a sender is
-abbrev Prompt : View → Type 0
-Prompt v = All (λ x. overdue (v .clock) x ≡ false) (v .transfers)
-
--- another of the same parcel is not, either
-same-prompt : (c : Clock) (y x : Transfer) → y .parcel ≡ x .parcel → overdue c x ≡ false → overdue c y ≡ false
-same-prompt c y x p e = ap (λ (q : Parcel). leb (q .«deadline_ms») (c .«last_ms»)) p ∙ e
-
--- `advance`
-walked-prompt : (v : View) → Sound v → Prompt (walked v)
-walked-prompt v h = subst (λ c. All (λ x. overdue c x ≡ false) (walked v .transfers)) (sym (walked-near v h .clock)) (all-map (λ x r. r .in-time) (walked-rests v h))
-
--- a frame is selected, or refused
-selects-prompt : (v : View) (x : Transfer) (o : Outcome PackedFrame) → Prompt v → Prompt (selects v x o .state)
-selects-prompt v x (gives p) h = h
-selects-prompt v x (refuses n) h = h
-
--- the selected frame, or another
-choose-from-prompt : (v : View) (octets : List ℕ) (s : Option PreparedFrame) → Prompt v → Prompt (chooseFrom v octets s .state)
-choose-from-prompt v octets (some f) h = h
-choose-from-prompt v octets none h =
-    seek-cases {X = After (Option PreparedFrame) View} (λ a. Prompt (a .state)) isReady (v .transfers) (says none v) (λ place x. selects v x (frontOf x octets)) (λ n. h)
-    (λ i lt t. let x = getD (v .transfers) i blankTransfer in selects-prompt v x (frontOf x octets) h)
-
--- what `prepare` does after its `advance`
-choose-prompt : (v : View) (octets : List ℕ) → Prompt v → Prompt (choose v octets .state)
-unfolding choose
-choose-prompt v octets h = choose-from-prompt v octets (v .selected) h
-
--- what `prepare_prioritized` does after its `advance`
-prioritize-prompt : (v : View) (octets : List ℕ) (echo : ℕ) → Prompt v → Prompt (prioritizeAt v octets echo .state)
-prioritize-prompt v octets echo h =
-    prioritize-cases (λ a. Prompt (a .state)) v octets echo h
-    (λ i lt. let x = getD (v .transfers) i blankTransfer in
-    let w = withSelected (withTransfers v (repeated x ∷ removeAt i (v .transfers))) (onlyEcho echo (v .selected)) in
-    let k : Prompt w = all-more (same-prompt (v .clock) (repeated x) x (repeated-parcel x .0) (all-at (v .transfers) i blankTransfer lt h)) (all-removed (v .transfers) i blankTransfer lt h) in
-    (choose-prompt w octets k, k))
-
--- a refusal says no frame
-said-prompt : (v : View) (o : Outcome View) (g : View → After (Option PreparedFrame) View) (f : PreparedFrame) → ((w : View) → o ≡ gives w → Prompt (g w .state)) → frameIn (onward v o g .outcome) ≡ some f → Prompt (onward v o g .state)
-said-prompt v (gives w) g f k e = k w refl
-said-prompt v (refuses n) g f k e = absurd (Option·none-ne-some f e)
-
--- each call that says one
-does-prompt : (v : View) (m : Lent) (c : Call) (f : PreparedFrame) → Sound v → does v m c .frame ≡ some f → Prompt (does v m c .sender)
-unfolding prepareOf preparePrioritizedOf
-does-prompt v m c f h =
-    said-cases (λ c. Prompt (does v m c .sender)) v m f
-    (λ block now. said-prompt v (admitted v m block now) (λ w. choose (walked w) (m .octets)) f (λ w q. choose-prompt (walked w) (m .octets) (walked-prompt w (admitted-kept v m block now q h))))
-    (λ echo block now. said-prompt v (admitted v m block now) (λ w. prioritizeAt (walked w) (m .octets) echo) f (λ w q. prioritize-prompt (walked w) (m .octets) echo (walked-prompt w (admitted-kept v m block now q h)))) c
+use Rattle.transfer.proofs.Faithful.{accepts-more, faithful, ordered}
 
 -- ---- a sender and a later one
 
@@ -189,7 +130,7 @@ module _ (v : View) (m : Lent) (calls : List Call) (c : Call) (f : PreparedFrame
 
   -- none of it is overdue
   prompt : Prompt then-sender
-  prompt = let at = runAlone v m calls in does-prompt (at .0) (at .1) c f (run-later v m calls (fresh-kept v fr) .0) e
+  prompt = let at = runAlone v m calls in last-told f (does-leaves (at .0) (at .1) c (run-later v m calls (fresh-kept v fr) .0) .last) e .2
 
   -- the order of its transfer, with its deadline
   own-deadline : (t : Traced v m calls then-sender f) → t .transfer .parcel .«deadline_ms» ≡ t .request .«deadline_ms»
@@ -256,9 +197,10 @@ module _ (v : View) (m : Lent) (calls between : List Call) (c d : Call) (f g : P
     -- accepted for one request with one message
     one-request : (t .request ≡ s .request) × (t .message ≡ s .message)
     one-request =
-        accepted-once v m before (t .request) (s .request) (t .message) (s .message) (t .transfer .parcel .owner) fr
+        let a = accepted-once v m before (t .request) (s .request) (t .message) (s .message) (t .transfer .parcel .owner) fr
         (accepts-more v m calls (c ∷ between) (t .request) (t .message) (t .transfer .parcel .owner) (t .accepted))
-        (subst (λ (p : Parcel). Accepts v m before (s .request) (s .message) (p .owner)) (one-transfer .0) (s .accepted))
+        (subst (λ (p : Parcel). Accepts v m before (s .request) (s .message) (p .owner)) (one-transfer .0) (s .accepted)) in
+        (a .0, a .1)
 
     -- so the second frame is one of the first one's order
     second-of-first : IsFrameOf g (t .transfer) (t .request) (t .message)

@@ -26,12 +26,6 @@ use Rattle.transfer.specs.declared.Since.{Since}
 use Rattle.transfer.specs.declared.Since.the-variants.{Never, Block}
 use Rattle.transfer.specs.declared.Transfer.{Transfer}
 use Rattle.transfer.specs.declared.PreparedFrame.{PreparedFrame}
-use Rattle.transfer.specs.declared.Confirmation.{Confirmation}
-use Rattle.transfer.specs.declared.Confirmation.the-variants as confirmations
-use Rattle.transfer.specs.declared.CompletionAnswer.{CompletionAnswer}
-use Rattle.transfer.specs.declared.CompletionAnswer.the-variants as completions
-use Rattle.transfer.specs.declared.Addressee.{Addressee}
-use Rattle.transfer.specs.declared.Addressee.the-variants as addressees
 use Rattle.transfer.specs.Queue.{framesOf}
 use Rattle.transfer.specs.State.{View, Lent, Out, fresh, newOf}
 use Rattle.transfer.specs.Echo.{freeEcho}
@@ -94,17 +88,17 @@ abbrev prepared : Option PreparedFrame → Line
 prepared none = nothing
 prepared (some f) = frame (f .token .generation .0) (f .token .submission .0) (f .token .frame) (f .«partial_echo») (f .octets)
 
-abbrev confirmation : Confirmation → Line
-confirmation confirmations.NotFound = unknown
-confirmation (confirmations.Found b) = confirmed b
+abbrev confirmation : Option Bool → Line
+confirmation none = unknown
+confirmation (some b) = confirmed b
 
-abbrev completion : CompletionAnswer → Line
-completion completions.Nothing = nothing
-completion (completions.Completion c) = number c
+abbrev completion : Option ℕ → Line
+completion none = nothing
+completion (some c) = number c
 
-abbrev addressee : Addressee → Line
-addressee addressees.Nothing = nothing
-addressee (addressees.Identity i) = to i
+abbrev addressee : Option MobileIdentity → Line
+addressee none = nothing
+addressee (some i) = to i
 
 abbrev kindOf : Ending → ℕ × ℕ
 kindOf (complete c) = (0, c)
@@ -958,6 +952,139 @@ around =
     ∷ (order, numbers (1 ∷ 3 ∷ 4 ∷ []))
     ∷ []
 
+-- five frames on Arch: each takes one token, and the last alone is polled. A Continue is refused by either clock and by each number of its token, and
+-- a refusal for the token leaves the clock moved; one that is in flight again is known by its last submission
+five-on-arch : List (Call × Line)
+five-on-arch =
+    (enqueue (Tmsi20 1) Arch (1 ∷ 2 ∷ 3 ∷ 4 ∷ 5 ∷ 6 ∷ 7 ∷ 8 ∷ 9 ∷ 10 ∷ 11 ∷ 12 ∷ 13 ∷ 14 ∷ 15 ∷ 16 ∷ 17 ∷ 18 ∷ 19 ∷ 20 ∷ 21 ∷ 22 ∷ 23 ∷ 24 ∷ 25 ∷ 26 ∷ 27 ∷ 28 ∷ 29 ∷ 30 ∷ 31 ∷ 32 ∷ 33 ∷ 34 ∷ 35 ∷ 36 ∷ 37 ∷ []) 1 5000 10 100, owner 100)
+    ∷ (prepare 10 100, frame 100 101 0 0 (0x61 ∷ 0x40 ∷ 0x00 ∷ 0x00 ∷ 0x20 ∷ 0x00 ∷ 0x94 ∷ 0x04 ∷ 0x08 ∷ 0x0c ∷ 0x10 ∷ 0x14 ∷ 0x18 ∷ 0x18 ∷ []))
+    ∷ (submitted 100 101 0 10 100, done)
+    ∷ (prepare 10 100, frame 100 102 1 0 (0x61 ∷ 0x80 ∷ 0x00 ∷ 0x02 ∷ 0x10 ∷ 0x12 ∷ 0x14 ∷ 0x16 ∷ 0x18 ∷ 0x1a ∷ 0x1c ∷ 0x1e ∷ 0x20 ∷ 0x20 ∷ []))
+    ∷ (submitted 100 102 1 9 100, refused 22)
+    ∷ (submitted 100 102 1 10 99, refused 22)
+    ∷ (submitted 100 101 1 11 101, refused 24)
+    ∷ (submitted 101 102 1 11 101, refused 24)
+    ∷ (submitted 100 102 2 11 101, refused 24)
+    ∷ (state, whole ((1 ∷ 0 ∷ 37 ∷ 5 ∷ 100 ∷ 0 ∷ 100 ∷ 30 ∷ 1 ∷ 0 ∷ 0 ∷ 0 ∷ 11 ∷ 11 ∷ 0 ∷ 5000 ∷ []) ∷ []) [] (100 ∷ 102 ∷ 1 ∷ 0 ∷ []) (1 ∷ 11 ∷ 101 ∷ 103 ∷ []))
+    ∷ (submitted 100 102 1 12 102, done)
+    ∷ (state, whole ((1 ∷ 0 ∷ 37 ∷ 5 ∷ 100 ∷ 0 ∷ 100 ∷ 28 ∷ 3 ∷ 0 ∷ 0 ∷ 0 ∷ 13 ∷ 13 ∷ 0 ∷ 5000 ∷ []) ∷ []) [] [] (1 ∷ 12 ∷ 102 ∷ 103 ∷ []))
+    ∷ (prepare 12 102, frame 100 103 2 0 (0x61 ∷ 0x80 ∷ 0x00 ∷ 0x05 ∷ 0x12 ∷ 0x13 ∷ 0x14 ∷ 0x15 ∷ 0x16 ∷ 0x17 ∷ 0x18 ∷ 0x19 ∷ 0x1a ∷ 0x18 ∷ []))
+    ∷ (submitted 100 103 2 12 102, done)
+    ∷ (prepare 12 102, frame 100 104 3 0 (0x61 ∷ 0x80 ∷ 0x00 ∷ 0x09 ∷ 0x8e ∷ 0x0e ∷ 0x8f ∷ 0x0f ∷ 0x90 ∷ 0x10 ∷ 0x91 ∷ 0x11 ∷ 0x92 ∷ 0x10 ∷ []))
+    ∷ (submitted 100 104 3 12 102, done)
+    ∷ (submittedMessage 100 104 3, nothing)
+    ∷ (prepare 12 102, frame 100 105 4 0 (0x61 ∷ 0x80 ∷ 0x01 ∷ 0x0d ∷ 0x40 ∷ replicate 9 0))
+    ∷ (state, whole ((1 ∷ 0 ∷ 37 ∷ 5 ∷ 100 ∷ 0 ∷ 100 ∷ 16 ∷ 15 ∷ 0 ∷ 0 ∷ 0 ∷ 13 ∷ 13 ∷ 0 ∷ 5000 ∷ []) ∷ []) [] (100 ∷ 105 ∷ 4 ∷ 0 ∷ []) (1 ∷ 12 ∷ 102 ∷ 106 ∷ []))
+    ∷ (submitted 100 105 4 12 102, done)
+    ∷ (submittedMessage 100 105 4, number 1)
+    ∷ (pending, number 1)
+    ∷ (transmitted 100 101 3 13 102, unknown)
+    ∷ (transmitted 100 105 3 13 102, unknown)
+    ∷ (transmitted 100 104 3 13 102, confirmed false)
+    ∷ (transmitted 100 104 3 13 102, unknown)
+    ∷ (transmitted 100 104 5 13 102, unknown)
+    ∷ (transmitted 100 101 0 13 102, confirmed false)
+    ∷ (transmitted 100 102 1 13 102, confirmed false)
+    ∷ (transmitted 100 103 2 13 102, confirmed false)
+    ∷ (transmitted 100 105 4 13 102, confirmed true)
+    ∷ (state, whole ((1 ∷ 0 ∷ 37 ∷ 5 ∷ 100 ∷ 0 ∷ 100 ∷ 0 ∷ 0 ∷ 31 ∷ 0 ∷ 0 ∷ 13 ∷ 13 ∷ 14 ∷ 5000 ∷ []) ∷ []) [] [] (1 ∷ 13 ∷ 102 ∷ 106 ∷ []))
+    ∷ (pending, number 1)
+    ∷ (status 0 7 14 102, answer true)
+    ∷ (queue 0, numbers (4 ∷ []))
+    ∷ (prepare 14 102, frame 100 106 4 0 (0x61 ∷ 0x80 ∷ 0x01 ∷ 0x0d ∷ 0x40 ∷ replicate 9 0))
+    ∷ (submitted 100 106 4 14 102, done)
+    ∷ (word 4, number 106)
+    ∷ (transmitted 100 105 4 14 102, unknown)
+    ∷ (transmitted 100 106 4 15 102, confirmed true)
+    ∷ (status 0 8 16 102, answer true)
+    ∷ (pop, event 0 1)
+    ∷ (pending, number 0)
+    ∷ []
+
+-- a selected Continue stays while others are refreshed, cancelled, restarted or complete, and goes when another echo is put first or its own order is
+-- replaced; a Continue of another order, of another submission or confirmed twice is unknown
+of-continues : List (Call × Line)
+of-continues =
+    (enqueue (Tmsi20 1) Arch (replicate 7 65) 1 5000 10 100, owner 100)
+    ∷ (enqueue (Tmsi20 2) Arch (replicate 7 66) 2 5000 10 100, owner 101)
+    ∷ (prepare 10 100, frame 100 102 0 0 (0x61 ∷ 0x40 ∷ 0x00 ∷ 0x00 ∷ 0x20 ∷ 0x00 ∷ 0x1d ∷ 0x05 ∷ 0x05 ∷ 0x05 ∷ 0x05 ∷ 0x05 ∷ 0x05 ∷ 0x00 ∷ []))
+    ∷ (submitted 100 102 0 10 100, done)
+    ∷ (prepare 10 100, frame 101 103 0 1 (0x61 ∷ 0x40 ∷ 0x00 ∷ 0x00 ∷ 0x40 ∷ 0x40 ∷ 0x1d ∷ 0x09 ∷ 0x09 ∷ 0x09 ∷ 0x09 ∷ 0x09 ∷ 0x09 ∷ 0x08 ∷ []))
+    ∷ (submitted 101 103 0 10 100, done)
+    ∷ (prepare 10 100, frame 100 104 1 0 (0x61 ∷ 0x80 ∷ 0x01 ∷ 0x02 ∷ replicate 10 0))
+    ∷ (prioritize 0 10 100, frame 100 104 1 0 (0x61 ∷ 0x80 ∷ 0x01 ∷ 0x02 ∷ replicate 10 0))
+    ∷ (refresh 26 100, done)
+    ∷ (order, numbers (1 ∷ 2 ∷ []))
+    ∷ (cancel (Tmsi20 2), answer true)
+    ∷ (prepare 26 100, frame 100 104 1 0 (0x61 ∷ 0x80 ∷ 0x01 ∷ 0x02 ∷ replicate 10 0))
+    ∷ (pop, event 2 2)
+    ∷ (enqueue (Tmsi20 2) Arch (replicate 7 66) 3 5000 26 100, owner 105)
+    ∷ (prioritize 2 26 100, frame 105 106 0 2 (0x61 ∷ 0x40 ∷ 0x00 ∷ 0x00 ∷ 0x40 ∷ 0x80 ∷ 0x1d ∷ 0x09 ∷ 0x09 ∷ 0x09 ∷ 0x09 ∷ 0x09 ∷ 0x09 ∷ 0x08 ∷ []))
+    ∷ (state, whole ((3 ∷ 1 ∷ 7 ∷ 2 ∷ 105 ∷ 2 ∷ 105 ∷ 3 ∷ 0 ∷ 0 ∷ 0 ∷ 0 ∷ 0 ∷ 0 ∷ 0 ∷ 5000 ∷ []) ∷ (1 ∷ 0 ∷ 7 ∷ 2 ∷ 100 ∷ 0 ∷ 100 ∷ 2 ∷ 1 ∷ 0 ∷ 0 ∷ 0 ∷ 11 ∷ 11 ∷ 0 ∷ 5000 ∷ []) ∷ []) [] (105 ∷ 106 ∷ 0 ∷ 2 ∷ []) (3 ∷ 26 ∷ 100 ∷ 107 ∷ []))
+    ∷ (submitted 100 104 1 26 100, refused 24)
+    ∷ (submitted 105 106 0 26 100, done)
+    ∷ (prioritize 0 26 100, frame 100 107 1 0 (0x61 ∷ 0x80 ∷ 0x01 ∷ 0x02 ∷ replicate 10 0))
+    ∷ (interrupt 2 26 100, answer true)
+    ∷ (state, whole ((1 ∷ 0 ∷ 7 ∷ 2 ∷ 100 ∷ 0 ∷ 100 ∷ 2 ∷ 1 ∷ 0 ∷ 0 ∷ 0 ∷ 11 ∷ 11 ∷ 0 ∷ 5000 ∷ []) ∷ (3 ∷ 1 ∷ 7 ∷ 2 ∷ 105 ∷ 3 ∷ 108 ∷ 3 ∷ 0 ∷ 0 ∷ 0 ∷ 0 ∷ 0 ∷ 0 ∷ 0 ∷ 5000 ∷ []) ∷ []) [] (100 ∷ 107 ∷ 1 ∷ 0 ∷ []) (4 ∷ 26 ∷ 100 ∷ 109 ∷ []))
+    ∷ (submitted 100 107 1 27 100, done)
+    ∷ (prepare 27 100, frame 108 109 0 3 (0x61 ∷ 0x40 ∷ 0x00 ∷ 0x00 ∷ 0x40 ∷ 0xc0 ∷ 0x1d ∷ 0x09 ∷ 0x09 ∷ 0x09 ∷ 0x09 ∷ 0x09 ∷ 0x09 ∷ 0x08 ∷ []))
+    ∷ (submitted 108 109 0 27 100, done)
+    ∷ (prepare 27 100, frame 108 110 1 3 (0x61 ∷ 0x80 ∷ 0x19 ∷ replicate 11 0))
+    ∷ (transmitted 100 102 0 27 100, confirmed false)
+    ∷ (transmitted 108 107 1 27 100, unknown)
+    ∷ (transmitted 100 102 1 27 100, unknown)
+    ∷ (transmitted 100 107 1 27 100, confirmed true)
+    ∷ (transmitted 100 107 1 27 100, unknown)
+    ∷ (status 0 1 28 100, answer true)
+    ∷ (pop, event 0 1)
+    ∷ (prepare 28 100, frame 108 110 1 3 (0x61 ∷ 0x80 ∷ 0x19 ∷ replicate 11 0))
+    ∷ (pending, number 1)
+    ∷ (enqueue (Tmsi20 2) Smsch (replicate 7 67) 4 5000 28 100, owner 111)
+    ∷ (state, whole ((4 ∷ 0 ∷ 7 ∷ 2 ∷ 111 ∷ 4 ∷ 111 ∷ 3 ∷ 0 ∷ 0 ∷ 0 ∷ 0 ∷ 0 ∷ 0 ∷ 0 ∷ 5000 ∷ []) ∷ []) (2 ∷ 3 ∷ []) [] (5 ∷ 28 ∷ 100 ∷ 112 ∷ []))
+    ∷ (submitted 108 110 1 28 100, refused 24)
+    ∷ (pop, event 2 3)
+    ∷ []
+
+-- a message of 100 octets over one of 255: what is past it stays, and so does the next order's
+over-another : List (Call × Line)
+over-another =
+    (enqueue (Tmsi20 1) Arch (replicate 255 65) 1 5000 10 100, owner 100)
+    ∷ (enqueue (Tmsi20 2) Arch (replicate 255 66) 2 5000 10 100, owner 101)
+    ∷ (cancel (Tmsi20 1), answer true)
+    ∷ (pop, event 2 1)
+    ∷ (enqueue (Tmsi20 3) Arch (replicate 100 67) 3 5000 10 100, owner 102)
+    ∷ (stored 0 2, numbers (67 ∷ 67 ∷ []))
+    ∷ (stored 98 4, numbers (67 ∷ 67 ∷ 65 ∷ 65 ∷ []))
+    ∷ (stored 252 5, numbers (65 ∷ 65 ∷ 65 ∷ 66 ∷ 66 ∷ []))
+    ∷ (stored 509 2, numbers (66 ∷ 0 ∷ []))
+    ∷ []
+
+-- a guard, a first usable block and blocks over 32 bits, and a completion of 64: all are kept in full
+large : List (Call × Line)
+large =
+    (canEnqueue 8589934591 0, answer false)
+    ∷ (canEnqueue 8589934592 0, answer true)
+    ∷ (enqueue (Tmsi20 1) Arch (65 ∷ []) 18446744073709551615 5000 8589934591 100, refused 21)
+    ∷ (enqueue (Tmsi20 1) Arch (65 ∷ []) 18446744073709551615 5000 8589934592 100, owner 100)
+    ∷ (held 0, number 1099511632781)
+    ∷ (state, whole ((18446744073709551615 ∷ 0 ∷ 1 ∷ 1 ∷ 100 ∷ 0 ∷ 100 ∷ 1 ∷ 0 ∷ 0 ∷ 0 ∷ 0 ∷ 0 ∷ 0 ∷ 0 ∷ 5000 ∷ []) ∷ []) [] [] (1 ∷ 8589934592 ∷ 100 ∷ 101 ∷ []))
+    ∷ (prepare 8589934592 100, frame 100 101 0 0 (0x61 ∷ 0x40 ∷ 0x00 ∷ 0x00 ∷ 0x20 ∷ 0x08 ∷ 0x05 ∷ 0x04 ∷ replicate 6 0))
+    ∷ (submitted 100 101 0 8589934592 100, done)
+    ∷ (submittedMessage 100 101 0, number 18446744073709551615)
+    ∷ (transmitted 100 101 0 8589934593 100, confirmed true)
+    ∷ (pending, number 1)
+    ∷ (advance 8589934655 100, done)
+    ∷ (held 0, number 1099511632781)
+    ∷ (advance 8589934656 100, done)
+    ∷ (state, whole ((18446744073709551615 ∷ 0 ∷ 1 ∷ 1 ∷ 100 ∷ 1 ∷ 102 ∷ 1 ∷ 0 ∷ 0 ∷ 0 ∷ 0 ∷ 0 ∷ 0 ∷ 0 ∷ 5000 ∷ []) ∷ []) [] [] (2 ∷ 8589934656 ∷ 100 ∷ 103 ∷ []))
+    ∷ (prepare 8589934656 100, frame 102 103 0 1 (0x61 ∷ 0x40 ∷ 0x00 ∷ 0x00 ∷ 0x20 ∷ 0x48 ∷ 0x05 ∷ 0x04 ∷ replicate 6 0))
+    ∷ (submitted 102 103 0 8589934656 100, done)
+    ∷ (transmitted 102 103 0 8589934656 100, confirmed true)
+    ∷ (status 1 0 8589934657 100, answer true)
+    ∷ (pop, event 0 18446744073709551615)
+    ∷ (canEnqueue 8589934657 1099511632780, answer true)
+    ∷ []
+
 -- 26 bits of a status are read, and no more: Continues 0 to 25 are the frames 1 to 26
 shows-26 : (shown 0xffffffff ≡ 134217726) × (shown 0xfc000000 ≡ 0)
 shows-26 = (refl, refl)
@@ -1000,5 +1127,9 @@ settled : Lives (fresh 4 1000 0 100) one-frame
     × Lives (fresh 1 0 0 100) overdue
     × Lives (fresh 3 0 0 100) same-number
     × Lives (left deadlines (fresh 8 0 5 100)) around
-unfolding one-frame three-frames restarts waits equal-ages replacement shared-echo expires prioritized interrupted shortage answered-again store-short tokens-short in-order no-echo refreshes later-frames in-flight-again at-the-deadline two-at-once served-by-age missing forgotten none-heard others-stay overdue same-number around deadlines octets bitsOf bits value layout upTo anySet same inRange encodable packed beginFrame continueFrame encodeOf countOf frameOf ones onesIn trailingZeros framesOf freeEcho doneOf settleOf fateOf step walk walked advanceOf grantOf accepts enqueueOf packedOf choose prepareOf interruptOf prioritizeAt preparePrioritizedOf submittedAt submittedOf submittedMessageOf transmittedAt transmittedOf statusAt statusOf cancelOf cancelTransactionOf cancelAllOf queueWaiting oldest serveOldest refreshWaitingOf canEnqueueOf identityForEchoOf popEventOf
-settled = (refl, refl, refl, refl, refl, refl, refl, refl, refl, refl, refl, refl, refl, refl, refl, refl, refl, refl, refl, refl, refl, refl, refl, refl, refl, refl, refl, refl, refl)
+    × Lives (fresh 4 0 0 100) five-on-arch
+    × Lives (fresh 4 0 0 100) of-continues
+    × Lives (fresh 2 0 0 100) over-another
+    × Lives (fresh 100 1099511627781 8589934592 100) large
+unfolding one-frame three-frames restarts waits equal-ages replacement shared-echo expires prioritized interrupted shortage answered-again store-short tokens-short in-order no-echo refreshes later-frames in-flight-again at-the-deadline two-at-once served-by-age missing forgotten none-heard others-stay overdue same-number around five-on-arch of-continues over-another large deadlines octets bitsOf bits value layout upTo anySet same inRange encodable packed beginFrame continueFrame encodeOf countOf frameOf ones onesIn trailingZeros framesOf freeEcho doneOf settleOf fateOf step walk walked advanceOf grantOf accepts enqueueOf packedOf choose prepareOf interruptOf prioritizeAt preparePrioritizedOf submittedAt submittedOf submittedMessageOf transmittedAt transmittedOf statusAt statusOf cancelOf cancelTransactionOf cancelAllOf queueWaiting oldest serveOldest refreshWaitingOf canEnqueueOf identityForEchoOf popEventOf
+settled = (refl, refl, refl, refl, refl, refl, refl, refl, refl, refl, refl, refl, refl, refl, refl, refl, refl, refl, refl, refl, refl, refl, refl, refl, refl, refl, refl, refl, refl, refl, refl, refl, refl)

@@ -1,11 +1,12 @@
--- A copy to the front of a list, element by element, and a part put back into its whole. Assumes nothing.
-use mathlib.Core.Path.{_≡_, ap, sym, _∙_}
+-- A copy to the front of a list, element by element, a part put back into its whole, and how many parts the lent memory has. Assumes nothing.
+use mathlib.Core.Path.{_≡_, refl, ap, sym, _∙_}
 use mathlib.Core.List.{List, _++_, append-assoc}
-use Prim.Native.Nat.{ℕ, suc, _+_, _≤_, _<_}
+use Prim.Native.Nat.{ℕ, suc, _+_, _*_, _≤_, _<_}
 use native.Mathlib.Numerals.{add-one}
 use native.Mathlib.Omega.{arith}
 use lib.ListN.{length, take, drop, getD, set, length-drop, take-append-drop}
 use lib.Seq.{drop-cons, set-at, take-suc, length-take-le, drop-drop, drop-append-le}
+use Rattle.transfer.specs.Constants.{echoValues, messageOctets, messageWords, storeOctets, storeWords}
 
 module _ {A : Type 0} where
   -- i elements of s stand at the front of d: one more
@@ -21,3 +22,7 @@ module _ {A : Type 0} where
       let join : drop (length s) (take k (drop a x)) ++ drop k (drop a x) ≡ drop (length s) (drop a x) =
       sym (drop-append-le (length s) (take k (drop a x)) (drop k (drop a x)) (omega arith)) ∙ ap (λ (l : List A). drop (length s) l) (take-append-drop k (drop a x)) in
       rw (append-assoc s, join, drop-drop (length s) a x, append-assoc (take a x) s)
+
+-- the lent memory has a part for each transfer, of octets and of words
+pub store-sizes : (storeOctets ≡ messageOctets * echoValues) × (storeWords ≡ messageWords * echoValues)
+store-sizes = (refl, refl)

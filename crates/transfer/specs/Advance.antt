@@ -7,12 +7,11 @@ use Prim.Native.Nat.{ℕ}
 use lib.Dec.{leb}
 use Rattle.spach.specs.Refusal.{After, onward}
 use Rattle.transfer.specs.declared.Error.the-variants.{EchoExhausted}
-use Rattle.transfer.specs.declared.Event.the-variants.{Complete, Expired, Failed}
 use Rattle.transfer.specs.declared.Transfer.{Transfer}
 use Rattle.transfer.specs.declared.Fate.{Fate}
 use Rattle.transfer.specs.declared.Fate.the-variants.{Ends, Restarts, Stays}
 use Rattle.transfer.specs.Lists.{pushBack}
-use Rattle.transfer.specs.State.{View, Lent, Clock, withTransfers, withEchoes, tokenTaken, admitted, says, clearSelected, ended}
+use Rattle.transfer.specs.State.{View, Lent, Clock, withTransfers, withEchoes, tokenTaken, admitted, says, clearSelected, completes, expires, fails, eventOf, ended}
 use Rattle.transfer.specs.Echo.{freeEcho, heldUntil, hold}
 use Rattle.transfer.specs.Transfer.{doneOf, settleOf, restartDue, begun}
 
@@ -27,8 +26,8 @@ settled c asked x = cond (asked || restartDue (c .«last_block») x) Restarts (S
 -- what becomes of a transfer at the clock: Expired even if done; Complete; else it settles
 unfoldable pub fateOf : Clock → (asked : Bool) → Transfer → Fate
 fateOf c asked x =
-    cond (overdue c x) (Ends (Expired (x .parcel .completion)))
-    (cond (doneOf x) (Ends (Complete (x .parcel .completion)))
+    cond (overdue c x) (Ends (eventOf x expires))
+    (cond (doneOf x) (Ends (eventOf x completes))
     (settled c asked (settleOf (c .«last_block») x)))
 
 -- a transfer goes on, behind those before it
@@ -38,7 +37,7 @@ kept v x = withTransfers v (pushBack (v .transfers) x)
 -- a restart takes a free echo, held until deadline plus guard, and the next token as generation; with none free it is Failed.
 -- (The Rust tests the first block and the sum once more. A live transfer has passed both at `enqueue`.)
 abbrev pub restart : View → Transfer → (free : Option ℕ) → View
-restart v x none = ended v x (Failed (x .parcel .completion) EchoExhausted)
+restart v x none = ended v x (eventOf x (fails EchoExhausted))
 restart v x (some echo) =
     kept
     (tokenTaken (withEchoes (clearSelected v (x .generation)) (hold (v .echoes) echo (heldUntil (v .limits) (x .parcel .«deadline_ms»)))))

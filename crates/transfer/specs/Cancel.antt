@@ -7,9 +7,8 @@ use lib.Dec.{eqb}
 use Rattle.rach.specs.declared.MobileIdentity.{MobileIdentity}
 use Rattle.spach.specs.Refusal.{After}
 use Rattle.transfer.specs.declared.TransferToken.{TransferToken}
-use Rattle.transfer.specs.declared.Event.the-variants.{Cancelled}
 use Rattle.transfer.specs.declared.Transfer.{Transfer}
-use Rattle.transfer.specs.State.{View, withTransfers, withEvents, withSelected, says, seek, cancelAt}
+use Rattle.transfer.specs.State.{View, withTransfers, withEvents, withSelected, says, seek, cancels, eventOf, cancelAt}
 use Rattle.transfer.specs.Enqueue.{addressed}
 
 -- the first transfer that passes is taken out, and Cancelled; whether there was one
@@ -30,4 +29,4 @@ cancelTransactionOf v t = cancelFirst (ownedBy t) v
 
 -- all of them, in their order; nothing is selected any more
 unfoldable pub cancelAllOf : View → View
-cancelAllOf v = withSelected (withTransfers (withEvents v (v .events ++ map (λ x. Cancelled (x .parcel .completion)) (v .transfers))) []) none
+cancelAllOf v = withSelected (withTransfers (withEvents v (v .events ++ map (λ x. eventOf x cancels) (v .transfers))) []) none

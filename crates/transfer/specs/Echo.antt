@@ -1,5 +1,5 @@
 -- 01, module 6: echoes are sought from `next_echo` round 0 to 127, free when held until now or earlier.
--- Believe `free` and `around`, whose first is `freeEcho`, and `heldUntil` and `hold`: until when an echo is held. Assumes nothing.
+-- Believe `free` and `around`, whose first free one is `freeEcho`, and `heldUntil` and `hold`: until when an echo is held. Assumes nothing.
 use mathlib.Core.Bool.{Bool, cond}
 use mathlib.Core.List.{List, _++_}
 use mathlib.Core.Option.{Option, none, some}
@@ -8,6 +8,7 @@ use lib.Dec.{leb, ltb}
 use lib.ListN.{take, drop, set}
 use Rattle.transfer.specs.declared.FreeEcho.{FreeEcho}
 use Rattle.transfer.specs.declared.FreeEcho.the-variants.{Nothing, Echo}
+use Rattle.transfer.specs.Constants.{echoValues}
 use Rattle.transfer.specs.Lists.{position}
 use Rattle.transfer.specs.State.{Limits, Echoes}
 
@@ -23,7 +24,7 @@ around e = drop (e .«next_echo») (e .«echo_until_ms») ++ take (e .«next_ech
 unfoldable pub freeEcho : Echoes → (now : ℕ) → Option ℕ
 freeEcho e now =
     let offset = position (free now) (around e) in
-    cond (ltb offset 128) (some ((e .«next_echo» + offset) % 128)) none
+    cond (ltb offset echoValues) (some ((e .«next_echo» + offset) % echoValues)) none
 
 -- what the search answers
 abbrev pub freeAnswer : FreeEcho → Option ℕ
@@ -36,4 +37,4 @@ heldUntil l deadline = deadline + l .«echo_guard_ms»
 
 -- an echo is held until then, and the next search starts behind it
 abbrev pub hold : Echoes → (echo until : ℕ) → Echoes
-hold e echo until = record { «echo_until_ms» = set (e .«echo_until_ms») echo until; «next_echo» = (echo + 1) % 128 }
+hold e echo until = record { «echo_until_ms» = set (e .«echo_until_ms») echo until; «next_echo» = (echo + 1) % echoValues }

@@ -17,6 +17,7 @@ use Rattle.transfer.specs.declared.TransferToken.{TransferToken}
 use Rattle.transfer.specs.declared.Request.{Request}
 use Rattle.transfer.specs.declared.Parcel.{Parcel}
 use Rattle.transfer.specs.declared.Transfer.{Transfer}
+use Rattle.transfer.specs.Constants.{echoValues, messageOctets}
 use Rattle.transfer.specs.Lists.{any}
 use Rattle.transfer.specs.State.{Limits, Clock, Echoes, View, Lent, Out, withEchoes, tokenTaken, admitted, goesOn, seek, cancelAt}
 use Rattle.transfer.specs.Echo.{freeEcho, heldUntil, hold}
@@ -65,7 +66,7 @@ lowestFrom (suc tries) k l = cond (any (λ x. eqb (x .parcel .n) k) l) (lowestFr
 
 -- the lowest of all
 abbrev pub lowestN : List Transfer → ℕ
-lowestN l = lowestFrom 128 0 l
+lowestN l = lowestFrom echoValues 0 l
 
 -- what the new transfer is; its owner and its first generation are one number
 abbrev pub parcelOf : Request → (message : List ℕ) → (frames n owner : ℕ) → Parcel
@@ -82,7 +83,7 @@ parcelOf r message frames n owner = record {
 
 -- the lent octets with message n in its own part of 255, from its first; all others as they were
 abbrev pub stored : (octets : List ℕ) → (n : ℕ) → (message : List ℕ) → List ℕ
-stored octets n message = take (255 * n) octets ++ message ++ drop (255 * n + length message) octets
+stored octets n message = take (messageOctets * n) octets ++ message ++ drop (messageOctets * n + length message) octets
 
 -- the echo is held until deadline plus guard, the old transfer replaced, the new one put at the back under the next token, and
 -- its message into its own part of the lent store

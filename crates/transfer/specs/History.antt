@@ -1,7 +1,8 @@
 -- The cell's side of the question which conditions keep a gate from its neighbour's pieces: what holds over any list of calls from a
 -- fresh sender. (The gate's side is receiver/specs/Demand3.antt; Gate.antt joins them.) Read `Call`, `does` and `Takes`; then the claims: `OnlyTaken`, `TakenFree`,
 -- `NoneBefore`, `TakenTwice` and `TakenApart` of one sender, `TwoSenders` of two, and `AcceptedOnce` and `Faithful` of the frames. They are
--- proved in proofs/Holds.antt, Taken.antt, Once.antt and Faithful.antt; Instance.antt and Witness.antt show that they are not empty.
+-- proved in proofs/Holds.antt, Taken.antt, Once.antt and Faithful.antt, by the moves of which every call is made (proofs/Moves.antt);
+-- Instance.antt and Witness.antt show that they are not empty.
 -- Assumes nothing.
 use mathlib.Core.Path.{_≡_}
 use mathlib.Core.Logic.{_≢_}
@@ -22,6 +23,7 @@ use Rattle.transfer.specs.declared.Request.{Request}
 use Rattle.transfer.specs.declared.Transfer.{Transfer}
 use Rattle.transfer.specs.declared.PreparedFrame.{PreparedFrame}
 use Rattle.transfer.specs.State.{View, Lent, Out, newOf}
+use Rattle.transfer.specs.Numbers.{Ending}
 use Rattle.transfer.specs.Echo.{heldUntil}
 use Rattle.transfer.specs.Transfer.{headerOf}
 use Rattle.transfer.specs.Advance.{advanceOf}
@@ -36,7 +38,8 @@ use Rattle.transfer.specs.Invariant.{Some, Pairs}
 
 -- ---- calls
 
--- a call, with what it is given beside the lent memory; the others of the API change nothing
+-- a call, with what it is given beside the lent memory; the others of the API change nothing. (One more is a line here, a line in `does`
+-- and a case of `does-leaves` in proofs/Moves.antt: what holds of all calls is proved of the moves.)
 pub data Call : Type 0 where
   Enqueue : Request → (message : List ℕ) → (block now : ℕ) → Call
   Advance : (block now : ℕ) → Call
@@ -52,19 +55,36 @@ pub data Call : Type 0 where
   RefreshWaiting : (block now : ℕ) → Call
   PopEvent : Call
 
--- what a call leaves: the sender, the lent memory, and the frame if it prepares one
+-- a request that `enqueue` accepted: the token that it answered, the request, and its message
+pub record Acceptance : Type 0 where
+  pub token : TransferToken
+  pub request : Request
+  pub message : List ℕ
+
+-- what a call leaves: the sender, the lent memory, the frame if it prepares one, what it accepted, and the event that it took
 pub record Done : Type 0 where
   pub sender : View
   pub lent : Lent
   pub frame : Option PreparedFrame
+  pub accepted : Option Acceptance
+  pub popped : Option Ending
 
 -- of a call that writes nothing
 abbrev pub moves : Lent → View → Done
-moves m v = record { sender = v; lent = m; frame = none }
+moves m v = record { sender = v; lent = m; frame = none; accepted = none; popped = none }
 
--- of `enqueue` and `submitted`, which write to the lent memory
+-- an acceptance, if the answer is one
+abbrev pub acceptanceIn : Request → (message : List ℕ) → Outcome TransferToken → Option Acceptance
+acceptanceIn r message (gives t) = some (record { token = t; request = r; message = message })
+acceptanceIn r message (refuses n) = none
+
+-- of `enqueue`, which writes to the lent memory
+abbrev pub enqueues : Request → (message : List ℕ) → Out TransferToken → Done
+enqueues r message o = record { sender = o .sender; lent = o .lent; frame = none; accepted = acceptanceIn r message (o .outcome); popped = none }
+
+-- of `submitted`, which does so too
 abbrev pub writes : {A : Type 0} → Out A → Done
-writes o = record { sender = o .sender; lent = o .lent; frame = none }
+writes o = record { sender = o .sender; lent = o .lent; frame = none; accepted = none; popped = none }
 
 -- the frame of an answer
 abbrev pub frameIn : Outcome (Option PreparedFrame) → Option PreparedFrame
@@ -73,11 +93,20 @@ frameIn (refuses n) = none
 
 -- of `prepare` and `prepare_prioritized`
 abbrev pub prepares : Lent → After (Option PreparedFrame) View → Done
-prepares m a = record { sender = a .state; lent = m; frame = frameIn (a .outcome) }
+prepares m a = record { sender = a .state; lent = m; frame = frameIn (a .outcome); accepted = none; popped = none }
+
+-- the event of an answer
+abbrev pub eventIn : Outcome (Option Ending) → Option Ending
+eventIn (gives e) = e
+eventIn (refuses n) = none
+
+-- of `pop_event`
+abbrev pub pops : Lent → After (Option Ending) View → Done
+pops m a = record { sender = a .state; lent = m; frame = none; accepted = none; popped = eventIn (a .outcome) }
 
 -- each call by its definition
 abbrev pub does : View → Lent → Call → Done
-does v m (Enqueue r message block now) = writes (enqueueOf v m r message block now)
+does v m (Enqueue r message block now) = enqueues r message (enqueueOf v m r message block now)
 does v m (Advance block now) = moves m (advanceOf v m block now .state)
 does v m (Prepare block now) = prepares m (prepareOf v m block now)
 does v m (Interrupt echo block now) = moves m (interruptOf v m echo block now .state)
@@ -89,7 +118,7 @@ does v m (Cancel i) = moves m (cancelOf v i .state)
 does v m (CancelTransaction t) = moves m (cancelTransactionOf v t .state)
 does v m CancelAll = moves m (cancelAllOf v)
 does v m (RefreshWaiting block now) = moves m (refreshWaitingOf v m block now .state)
-does v m PopEvent = moves m (popEventOf v .state)
+does v m PopEvent = pops m (popEventOf v)
 
 -- a call with what it is lent, which may be other memory at each call
 abbrev pub Told : Type 0
@@ -182,21 +211,22 @@ unfoldable pub runAlone : View → Lent → List Call → View × Lent
 runAlone v m [] = (v, m)
 runAlone v m (c ∷ l) = let d = does v m c in runAlone (d .sender) (d .lent) l
 
--- somewhere in the list of calls this message was accepted for this request, under this token
+-- somewhere in the list of calls this message was accepted for this request, under this token (by `enqueue`, which was given both:
+-- `last-accepted`)
 pub record Accepts (v : View) (m : Lent) (calls : List Call) (r : Request) (message : List ℕ) (t : TransferToken) : Type 0 where
   pub earlier : List Call
+  pub call : Call
   pub later : List Call
-  pub block : ℕ
-  pub ms : ℕ
-  pub split : calls ≡ earlier ++ Enqueue r message block ms ∷ later
+  pub split : calls ≡ earlier ++ call ∷ later
   pub accepted :
       let at = runAlone v m earlier in
-      enqueueOf (at .0) (at .1) r message block ms .outcome ≡ gives t
+      does (at .0) (at .1) call .accepted ≡ some (record { token = t; request = r; message = message })
 
--- no token is given twice: what was accepted under it is one request with one message
+-- no token is given twice: what was accepted under it was accepted at one place of the list of calls, so it is one request with one
+-- message
 abbrev pub AcceptedOnce : Type 0
 AcceptedOnce = (v : View) (m : Lent) (calls : List Call) (r s : Request) (a b : List ℕ) (t : TransferToken) → Fresh v →
-    Accepts v m calls r a t → Accepts v m calls s b t → (r ≡ s) × (a ≡ b)
+    (p : Accepts v m calls r a t) (q : Accepts v m calls s b t) → (r ≡ s) × (a ≡ b) × (p .earlier ≡ q .earlier)
 
 -- a frame is one of the transfer x, and its octets are frame k of the cut of that message under the echo of x, polled or not
 pub record IsFrameOf (f : PreparedFrame) (x : Transfer) (r : Request) (message : List ℕ) : Type 0 where

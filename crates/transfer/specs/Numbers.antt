@@ -1,7 +1,16 @@
--- 01's numbers for the sender's refusals, and for the error of a Failed event. Believe each line. Assumes nothing.
+-- 01's numbers for the sender's refusals, and for the error of a Failed event; and what the answers of `pop_event`, `transmitted`,
+-- `submitted_message` and `identity_for_echo` say. Believe each line. Assumes nothing.
+use mathlib.Core.Bool.{Bool}
 use mathlib.Core.Option.{Option, none, some}
 use Prim.Native.Nat.{ℕ}
+use Rattle.rach.specs.declared.MobileIdentity.{MobileIdentity}
 use Rattle.spach.specs.Refusal.{numberOf}
+use Rattle.transfer.specs.declared.Addressee.{Addressee}
+use Rattle.transfer.specs.declared.Addressee.the-variants as addressees
+use Rattle.transfer.specs.declared.CompletionAnswer.{CompletionAnswer}
+use Rattle.transfer.specs.declared.CompletionAnswer.the-variants as completions
+use Rattle.transfer.specs.declared.Confirmation.{Confirmation}
+use Rattle.transfer.specs.declared.Confirmation.the-variants.{NotFound, Found}
 use Rattle.transfer.specs.declared.Error.{Error}
 use Rattle.transfer.specs.declared.Error.the-variants.{Limits, Capacity, EchoExhausted, Clock, Deadline, Stale, Wire}
 use Rattle.transfer.specs.declared.Event.{Event}
@@ -37,3 +46,18 @@ endingOf (events.Failed c e) = failed c (refusalOf e)
 abbrev pub nextOf : NextEvent → Option Ending
 nextOf nexts.Nothing = none
 nextOf (nexts.Event e) = some (endingOf e)
+
+-- the answer of `transmitted`: if the frame was in flight, whether all frames are transmitted with it (the Rust calls `completed`)
+abbrev pub confirmationOf : Confirmation → Option Bool
+confirmationOf NotFound = none
+confirmationOf (Found completed) = some completed
+
+-- the answer of `submitted_message`: the completion, if there is one
+abbrev pub completionOf : CompletionAnswer → Option ℕ
+completionOf completions.Nothing = none
+completionOf (completions.Completion c) = some c
+
+-- the answer of `identity_for_echo`: the identity, if there is one
+abbrev pub addresseeOf : Addressee → Option MobileIdentity
+addresseeOf addressees.Nothing = none
+addresseeOf (addressees.Identity i) = some i

@@ -9,8 +9,6 @@ use lib.ListN.{length}
 use Rattle.rach.specs.declared.MobileIdentity.{MobileIdentity}
 use Rattle.spach.specs.Refusal.{After}
 use Rattle.transfer.specs.declared.Event.{Event}
-use Rattle.transfer.specs.declared.Addressee.{Addressee}
-use Rattle.transfer.specs.declared.Addressee.the-variants as addressees
 use Rattle.transfer.specs.Lists.{any}
 use Rattle.transfer.specs.Numbers.{Ending, endingOf}
 use Rattle.transfer.specs.State.{View, withEvents, says, seek, ofEcho}
@@ -28,8 +26,8 @@ canEnqueueOf v block now =
     && any (free now) (v .echoes .«echo_until_ms»)))
 
 -- of the first transfer of this echo
-unfoldable pub identityForEchoOf : View → (echo : ℕ) → Addressee
-identityForEchoOf v echo = seek (ofEcho echo) (v .transfers) addressees.Nothing (λ place x. addressees.Identity (x .parcel .identity))
+unfoldable pub identityForEchoOf : View → (echo : ℕ) → Option MobileIdentity
+identityForEchoOf v echo = seek (ofEcho echo) (v .transfers) none (λ place x. some (x .parcel .identity))
 
 -- some transfer had progress under its present echo
 abbrev pub radioActiveOf : View → Bool

@@ -11,6 +11,7 @@ use Rattle.transfer.specs.declared.Since.{Since}
 use Rattle.transfer.specs.declared.Since.the-variants.{Never, Block}
 use Rattle.transfer.specs.declared.Transfer.{Transfer}
 use Rattle.transfer.specs.declared.PreparedFrame.{PreparedFrame}
+use Rattle.transfer.specs.Constants.{refreshBlocks}
 use Rattle.transfer.specs.Lists.{removeAt}
 use Rattle.transfer.specs.State.{View, Lent, withTransfers, admitted, says, blankTransfer}
 use Rattle.transfer.specs.Transfer.{passed, idle, lastQueued}
@@ -21,7 +22,7 @@ use Rattle.transfer.specs.Prepare.{isReady}
 
 -- 16 blocks since its last frame was submitted, with none queued or in flight: the last frame is queued again
 abbrev pub refreshed : (block : ℕ) → Transfer → Transfer
-refreshed block x = cond (idle x && passed 16 block (x .blocks .«last_frame»)) (lastQueued x) x
+refreshed block x = cond (idle x && passed refreshBlocks block (x .blocks .«last_frame»)) (lastQueued x) x
 
 -- each that waits so
 unfoldable pub queueWaiting : View → View
@@ -45,7 +46,7 @@ oldestFrom best top i (age ∷ ages) = cond (leb top age) (oldestFrom i age (suc
 
 -- of at least 16 blocks; the list's length if there is none
 unfoldable pub oldest : (block : ℕ) → List Transfer → ℕ
-oldest block l = oldestFrom (length l) 16 0 (map (ageOf block) l)
+oldest block l = oldestFrom (length l) refreshBlocks 0 (map (ageOf block) l)
 
 -- the transfer at a place, if there is one, goes to the front
 abbrev pub toFront : (place : ℕ) → List Transfer → List Transfer

@@ -11,12 +11,14 @@ use Rattle.token.specs.Token.{fewerThan, numberAfter}
 use Rattle.rach.specs.declared.MobileIdentity.the-variants.{Tmsi20}
 use Rattle.spach.specs.declared.Channel.the-variants.{Arch}
 use Rattle.spach.specs.Refusal.{Outcome, gives, refuses, refuse, After}
+use Rattle.transfer.specs.declared.Error.{Error}
 use Rattle.transfer.specs.declared.Event.{Event}
-use Rattle.transfer.specs.declared.Event.the-variants.{Cancelled}
+use Rattle.transfer.specs.declared.Event.the-variants.{Complete, Expired, Cancelled, Failed}
 use Rattle.transfer.specs.declared.Generation.{Generation}
 use Rattle.transfer.specs.declared.Since.the-variants.{Never}
 use Rattle.transfer.specs.declared.Transfer.{Transfer}
 use Rattle.transfer.specs.declared.PreparedFrame.{PreparedFrame}
+use Rattle.transfer.specs.Constants.{echoValues, storeOctets, storeWords, callTokens}
 use Rattle.transfer.specs.Lists.{position, removeAt, pushBack}
 
 -- ---- the state
@@ -97,14 +99,14 @@ fresh capacity guard firstBlock first = record {
   clock = record { «last_block» = 0; «last_ms» = 0 };
   transfers = [];
   events = [];
-  echoes = record { «echo_until_ms» = replicate 128 0; «next_echo» = 0 };
+  echoes = record { «echo_until_ms» = replicate echoValues 0; «next_echo» = 0 };
   selected = none;
   «next_token» = first;
 }
 
 -- `try_new` and `after_restart`: capacity not 1 to 128 is refused 19
 unfoldable pub newOf : (capacity guard firstBlock first : ℕ) → Outcome View
-newOf capacity guard firstBlock first = refuse (eqb capacity 0 || ltb 128 capacity) 19 (gives (fresh capacity guard firstBlock first))
+newOf capacity guard firstBlock first = refuse (eqb capacity 0 || ltb echoValues capacity) 19 (gives (fresh capacity guard firstBlock first))
 
 -- the blank sender, which stands beside that refusal
 abbrev pub blankView : View
@@ -114,7 +116,7 @@ blankView = fresh 0 0 0 0
 
 -- store short: fewer than 32,640 octets or fewer than 3,456 words
 abbrev pub short : Lent → Bool
-short m = ltb (length (m .octets)) 32640 || ltb (length (m .words)) 3456
+short m = ltb (length (m .octets)) storeOctets || ltb (length (m .words)) storeWords
 
 -- `clock`: gone back, either of them, is refused 22; else both move
 abbrev pub ticked : View → (block now : ℕ) → Outcome View
@@ -124,7 +126,7 @@ ticked v block now =
 
 -- 16; fewer than 512 tokens left 18; 22
 abbrev pub admitted : View → Lent → (block now : ℕ) → Outcome View
-admitted v m block now = refuse (short m) 16 (refuse (fewerThan 512 (v .«next_token»)) 18 (ticked v block now))
+admitted v m block now = refuse (short m) 16 (refuse (fewerThan callTokens (v .«next_token»)) 18 (ticked v block now))
 
 -- what a call says, and the sender that it leaves
 abbrev pub says : {A : Type 0} → A → View → After A View
@@ -182,10 +184,24 @@ unselect g (some f) = cond (eqb (f .token .generation .0) (g .0)) none (some f)
 abbrev pub clearSelected : View → Generation → View
 clearSelected v g = withSelected v (unselect g (v .selected))
 
+-- how a transfer ends
+pub data How : Type 0 where
+  completes : How
+  expires : How
+  cancels : How
+  fails : Error → How
+
+-- the event of a transfer that ends so: it tells the request's completion
+abbrev pub eventOf : Transfer → How → Event
+eventOf x completes = Complete (x .parcel .completion)
+eventOf x expires = Expired (x .parcel .completion)
+eventOf x cancels = Cancelled (x .parcel .completion)
+eventOf x (fails error) = Failed (x .parcel .completion) error
+
 -- a transfer ends: its event waits, and no frame of it is selected
 abbrev pub ended : View → Transfer → Event → View
 ended v x e = withEvent (clearSelected v (x .generation)) e
 
 -- the transfer at a place is taken out, and Cancelled; its echo stays held
 abbrev pub cancelAt : View → (place : ℕ) → Transfer → View
-cancelAt v place x = ended (withTransfers v (removeAt place (v .transfers))) x (Cancelled (x .parcel .completion))
+cancelAt v place x = ended (withTransfers v (removeAt place (v .transfers))) x (eventOf x cancels)

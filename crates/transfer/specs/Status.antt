@@ -9,7 +9,7 @@ use Rattle.transfer.specs.declared.Since.the-variants.{Never, Block}
 use Rattle.transfer.specs.declared.Transfer.{Transfer}
 use Rattle.transfer.specs.Queue.{has}
 use Rattle.transfer.specs.State.{View, Lent, admitted, says, seek, putAt, ofEcho}
-use Rattle.transfer.specs.Transfer.{wentOut}
+use Rattle.transfer.specs.Transfer.{withSets, withBlocks, wentOut}
 use Rattle.transfer.specs.Advance.{walked}
 
 -- the frames that a map shows: its bit k is Continue k's, which is frame k + 1
@@ -18,19 +18,16 @@ shown map = 2 * (map % 2 ^ 26)
 
 -- what the map shows is observed, if it went out; it waits no more, and this is progress
 abbrev pub observes : (map block : ℕ) → Transfer → Transfer
-observes map block x = record {
-  parcel = x .parcel;
-  generation = x .generation;
-  sets = record {
-    queue = x .sets .queue;
-    «in_flight» = x .sets .«in_flight»;
-    transmitted = x .sets .transmitted;
-    observed = bitOr (x .sets .observed) (bitAnd (shown map) (wentOut x));
-    «received_status» = true;
-  };
-  echo = x .echo;
-  blocks = record { «last_progress» = Block block; «last_frame» = x .blocks .«last_frame»; «waiting_since» = Never };
-}
+observes map block x =
+    withBlocks
+    (withSets x (record {
+      queue = x .sets .queue;
+      «in_flight» = x .sets .«in_flight»;
+      transmitted = x .sets .transmitted;
+      observed = bitOr (x .sets .observed) (bitAnd (shown map) (wentOut x));
+      «received_status» = true;
+    }))
+    (record { «last_progress» = Block block; «last_frame» = x .blocks .«last_frame»; «waiting_since» = Never })
 
 -- after `advance`: false for an echo that no transfer has, and for one whose Begin did not go out; else `advance` once
 -- more. (The Rust settles the transfer before that, which changes nothing: `status-literal`.)

@@ -13,14 +13,11 @@ use Rattle.transfer.specs.declared.FrameToken.{FrameToken}
 use Rattle.transfer.specs.declared.Since.the-variants.{Block}
 use Rattle.transfer.specs.declared.Transfer.{Transfer}
 use Rattle.transfer.specs.declared.PreparedFrame.{PreparedFrame}
-use Rattle.transfer.specs.declared.CompletionAnswer.{CompletionAnswer}
-use Rattle.transfer.specs.declared.CompletionAnswer.the-variants as completions
-use Rattle.transfer.specs.declared.Confirmation.{Confirmation}
-use Rattle.transfer.specs.declared.Confirmation.the-variants.{NotFound, Found}
+use Rattle.transfer.specs.Constants.{messageWords}
 use Rattle.transfer.specs.Lists.{removeAt, pushBack}
 use Rattle.transfer.specs.Queue.{has, frameAlone, without, front, full}
 use Rattle.transfer.specs.State.{View, Lent, Out, withTransfers, withSelected, short, ticked, admitted, says, refusal, goesOn, seek, putAt, ofGeneration}
-use Rattle.transfer.specs.Transfer.{withSets, wentOut, allTransmitted}
+use Rattle.transfer.specs.Transfer.{withSets, withBlocks, wentOut, allTransmitted}
 use Rattle.transfer.specs.Advance.{walked}
 use Rattle.transfer.specs.Prepare.{isReady}
 
@@ -37,23 +34,20 @@ isSelected t (some f) = matches (f .token) t
 
 -- the front of the queue goes in flight, at this block
 abbrev pub inFlight : (frame block : ℕ) → Transfer → Transfer
-inFlight frame block x = record {
-  parcel = x .parcel;
-  generation = x .generation;
-  sets = record {
-    queue = without (x .sets .queue) (frameAlone frame);
-    «in_flight» = withBit (x .sets .«in_flight») frame;
-    transmitted = x .sets .transmitted;
-    observed = x .sets .observed;
-    «received_status» = x .sets .«received_status»;
-  };
-  echo = x .echo;
-  blocks = record { «last_progress» = Block block; «last_frame» = Block block; «waiting_since» = x .blocks .«waiting_since» };
-}
+inFlight frame block x =
+    withBlocks
+    (withSets x (record {
+      queue = without (x .sets .queue) (frameAlone frame);
+      «in_flight» = withBit (x .sets .«in_flight») frame;
+      transmitted = x .sets .transmitted;
+      observed = x .sets .observed;
+      «received_status» = x .sets .«received_status»;
+    }))
+    (record { «last_progress» = Block block; «last_frame» = Block block; «waiting_since» = x .blocks .«waiting_since» })
 
 -- which of the lent words is a frame's
 abbrev pub wordOf : Transfer → (frame : ℕ) → ℕ
-wordOf x frame = 27 * x .parcel .n + frame
+wordOf x frame = messageWords * x .parcel .n + frame
 
 -- its transfer goes to the back, nothing is selected any more, and the word of its frame holds the submission
 abbrev pub handedIn : View → Lent → FrameToken → (place : ℕ) → Transfer → Out Unit
@@ -79,10 +73,10 @@ submittedOf v m t block now = goesOn v m (refuse (short m) 16 (ticked v block no
 -- ---- submitted_message
 
 -- the completion of the transfer of the token's generation, once every frame is transmitted or in flight
-unfoldable pub submittedMessageOf : View → FrameToken → CompletionAnswer
+unfoldable pub submittedMessageOf : View → FrameToken → Option ℕ
 submittedMessageOf v t =
-    seek (ofGeneration (t .generation)) (v .transfers) completions.Nothing (λ place x.
-    cond (full (x .parcel .frames) (wentOut x)) (completions.Completion (x .parcel .completion)) completions.Nothing)
+    seek (ofGeneration (t .generation)) (v .transfers) none (λ place x.
+    cond (full (x .parcel .frames) (wentOut x)) (some (x .parcel .completion)) none)
 
 -- ---- transmitted
 
@@ -105,15 +99,15 @@ confirmFrame frame x = withSets x (record {
 
 -- found, and whether the Rust calls `completed`: all frames are transmitted now. Then `advance`. (The Rust settles the transfer
 -- before that, which changes nothing: `transmitted-literal`.)
-abbrev pub confirms : View → FrameToken → (place : ℕ) → Transfer → After Confirmation View
-confirms v t place x = let y = confirmFrame (t .frame) x in says (Found (allTransmitted y)) (walked (putAt v place y))
+abbrev pub confirms : View → FrameToken → (place : ℕ) → Transfer → After (Option Bool) View
+confirms v t place x = let y = confirmFrame (t .frame) x in says (some (allTransmitted y)) (walked (putAt v place y))
 
 -- a frame that is not found: nothing but the clock has moved
-unfoldable pub transmittedAt : View → (words : List ℕ) → FrameToken → After Confirmation View
+unfoldable pub transmittedAt : View → (words : List ℕ) → FrameToken → After (Option Bool) View
 transmittedAt v words t =
-    seek (ofGeneration (t .generation)) (v .transfers) (says NotFound v) (λ place x.
-    cond (isOutstanding t words x) (confirms v t place x) (says NotFound v))
+    seek (ofGeneration (t .generation)) (v .transfers) (says none v) (λ place x.
+    cond (isOutstanding t words x) (confirms v t place x) (says none v))
 
 -- 16, 18, 22
-unfoldable pub transmittedOf : View → Lent → FrameToken → (block now : ℕ) → After Confirmation View
+unfoldable pub transmittedOf : View → Lent → FrameToken → (block now : ℕ) → After (Option Bool) View
 transmittedOf v m t block now = onward v (admitted v m block now) (λ w. transmittedAt w (m .words) t)

@@ -16,6 +16,7 @@ use Rattle.transfer.specs.declared.Since.{Since}
 use Rattle.transfer.specs.declared.Since.the-variants.{Never, Block}
 use Rattle.transfer.specs.declared.Blocks.{Blocks}
 use Rattle.transfer.specs.declared.Transfer.{Transfer}
+use Rattle.transfer.specs.Constants.{restartBlocks, messageOctets}
 use Rattle.transfer.specs.Queue.{isEmpty, firstFrames, continuesOf, frameAlone, without, full}
 
 -- ---- optional blocks
@@ -43,7 +44,7 @@ headerOf channel echo polling = record { channel = channel; flags = blankHeader 
 
 -- message n, in its own 255 octets of the lent store, from the first
 abbrev pub messageOf : Transfer → (octets : List ℕ) → List ℕ
-messageOf x octets = take (x .parcel .octets) (drop (255 * x .parcel .n) octets)
+messageOf x octets = take (x .parcel .octets) (drop (messageOctets * x .parcel .n) octets)
 
 -- with other sets
 abbrev pub withSets : Transfer → Sets → Transfer
@@ -52,6 +53,10 @@ withSets x s = record { parcel = x .parcel; generation = x .generation; sets = s
 -- with other blocks
 abbrev pub withBlocks : Transfer → Blocks → Transfer
 withBlocks x b = record { parcel = x .parcel; generation = x .generation; sets = x .sets; echo = x .echo; blocks = b }
+
+-- waiting since another block, or not at all
+abbrev pub waitingFrom : Transfer → Since → Transfer
+waitingFrom x s = withBlocks x (record { «last_progress» = x .blocks .«last_progress»; «last_frame» = x .blocks .«last_frame»; «waiting_since» = s })
 
 -- with another queue
 abbrev pub queued : Transfer → (queue : ℕ) → Transfer
@@ -87,23 +92,20 @@ doneOf x =
 
 -- the Continues that are not observed are queued again, and the status is used up
 abbrev pub requeued : Transfer → Transfer
-requeued x = record {
-  parcel = x .parcel;
-  generation = x .generation;
-  sets = record {
-    queue = without (continuesOf (x .parcel .frames)) (x .sets .observed);
-    «in_flight» = x .sets .«in_flight»;
-    transmitted = x .sets .transmitted;
-    observed = x .sets .observed;
-    «received_status» = false;
-  };
-  echo = x .echo;
-  blocks = record { «last_progress» = x .blocks .«last_progress»; «last_frame» = x .blocks .«last_frame»; «waiting_since» = Never };
-}
+requeued x =
+    waitingFrom
+    (withSets x (record {
+      queue = without (continuesOf (x .parcel .frames)) (x .sets .observed);
+      «in_flight» = x .sets .«in_flight»;
+      transmitted = x .sets .transmitted;
+      observed = x .sets .observed;
+      «received_status» = false;
+    }))
+    Never
 
 -- it waits from this block on, unless it does so already
 abbrev pub waits : (block : ℕ) → Transfer → Transfer
-waits block x = withBlocks x (record { «last_progress» = x .blocks .«last_progress»; «last_frame» = x .blocks .«last_frame»; «waiting_since» = orFrom block (x .blocks .«waiting_since») })
+waits block x = waitingFrom x (orFrom block (x .blocks .«waiting_since»))
 
 -- with frames queued or in flight, or when done, it stays as it is
 unfoldable pub settleOf : (block : ℕ) → Transfer → Transfer
@@ -115,7 +117,7 @@ settleOf block x =
 
 -- 64 blocks since progress or waiting
 abbrev pub restartDue : (block : ℕ) → Transfer → Bool
-restartDue block x = passed 64 block (x .blocks .«last_progress») || passed 64 block (x .blocks .«waiting_since»)
+restartDue block x = passed restartBlocks block (x .blocks .«last_progress») || passed restartBlocks block (x .blocks .«waiting_since»)
 
 -- a transfer begins, and begins again: under an echo and a generation all frames are queued, and nothing is left of before
 abbrev pub begun : Parcel → (echo generation : ℕ) → Transfer

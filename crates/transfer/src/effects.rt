@@ -5,6 +5,8 @@ use super::FrameToken;
 use super::Sets;
 use super::Since;
 use super::Transfer;
+use super::constants::MESSAGE_WORDS;
+use super::constants::REFRESH_BLOCKS;
 use super::queue::frame_alone;
 use super::queue::has;
 use super::queue::without;
@@ -81,7 +83,7 @@ pub fn refreshed(block: u64, x: Transfer) -> Transfer
     if !idle(s) {
         return x;
     }
-    if !passed(16, block, frame) {
+    if !passed(REFRESH_BLOCKS, block, frame) {
         return x;
     }
     last_queued(x)
@@ -160,7 +162,7 @@ pub fn is_outstanding(token: FrameToken, words: &[u64], x: Transfer) -> bool
     if !has(s.in_flight, frame) {
         return false;
     }
-    words[27 * (p.n as usize) + frame] == token.submission.0
+    words[MESSAGE_WORDS * (p.n as usize) + frame] == token.submission.0
 }
 
 // It is transmitted, and in flight no more.

@@ -1,6 +1,7 @@
 // The frames of a transfer's message, under its present echo.
 // Ported from runtime/spach_arq.rs (chrismoos/136-bts 7c60b63bf4, Apache-2.0) and changed: see NOTICE.
 use super::Transfer;
+use super::constants::MESSAGE_OCTETS;
 use arq::ArqHeader;
 use arq::Encoded;
 use arq::PackedFrame;
@@ -11,7 +12,7 @@ use spach::Verdict;
 ghost use mathlib.Core.Path.{_≡_};
 ghost use Prim.Native.Nat.{_+_, _*_, _≤_};
 ghost use lib.ListN.{length};
-ghost use Rattle.spach.specs.Refusal.{answered};
+ghost use Rattle.spach.specs.Answered.{answered};
 ghost use Rattle.arq.specs.Frame.{blankPacked};
 ghost use Rattle.arq.specs.Encode.{encodedAnswer};
 ghost use Rattle.transfer.specs.Transfer.{headerOf};
@@ -45,7 +46,7 @@ pub fn packed_of(x: Transfer, octets: &[u8], k: usize, polling: bool) -> Encoded
     let p = x.parcel;
     let identity = p.identity;
     let channel = p.channel;
-    let start = 255 * (p.n as usize);
+    let start = MESSAGE_OCTETS * (p.n as usize);
     let message = &octets[start..start + (p.octets as usize)];
     let header = header_of(channel, x.echo, polling);
     let cut = arq::cut::fragment(header, identity, message, k);

@@ -6,6 +6,7 @@ use super::Parcel;
 use super::Sets;
 use super::Since;
 use super::Transfer;
+use super::constants::RESTART_BLOCKS;
 use super::queue::continues_of;
 use super::queue::first_frames;
 use super::queue::full;
@@ -200,8 +201,8 @@ pub fn restart_due(block: u64, x: Transfer) -> bool
     let b = x.blocks;
     let progress = b.last_progress;
     let waiting = b.waiting_since;
-    if passed(64, block, progress) {
+    if passed(RESTART_BLOCKS, block, progress) {
         return true;
     }
-    passed(64, block, waiting)
+    passed(RESTART_BLOCKS, block, waiting)
 }

@@ -1,4 +1,5 @@
 // Message n lies in its own 255 octets of the lent store.
+use super::constants::MESSAGE_OCTETS;
 ghost use mathlib.Core.Path.{_≡_};
 ghost use mathlib.Core.List.{_++_};
 ghost use Prim.Native.Nat.{_≤_, _<_};
@@ -21,5 +22,8 @@ pub fn store_message(store: &mut [u8], n: usize, message: &[u8])
     requires { ⌜ (n < 128) × (32640 ≤ length (now store)) × (length (now message) ≤ 255) ⌝ }
     ensures { λ _. ⌜ now (store .exit) ≡ stored (now (store .entry)) n (now (message .entry)) ⌝ }
 {
-    put_message(&mut store[255 * n..255 * n + 255], message);
+    put_message(
+        &mut store[MESSAGE_OCTETS * n..MESSAGE_OCTETS * n + MESSAGE_OCTETS],
+        message,
+    );
 }

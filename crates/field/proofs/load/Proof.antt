@@ -2,7 +2,7 @@
 use mathlib.Core.Path.{_≡_, ap, _∙_}
 use native.Mathlib.Omega.{arith}
 use borrow.Author.Needs.{needs}
-use Rattle.field.specs.Bits.{window}
+use Rattle.field.specs.Spans.{window}
 use Rattle.field.proofs.Window.{halves}
 use Rattle.field.proofs.load.Statement.{statement}
 use Rattle.field.proofs.load.Tie as tie

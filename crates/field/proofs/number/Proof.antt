@@ -4,7 +4,8 @@ use mathlib.Core.List.{List}
 use Prim.Native.Nat.{ℕ, _≤_, _-_}
 use native.Mathlib.Omega.{arith}
 use borrow.Author.Needs.{needs}
-use Rattle.field.specs.Bits.{value, bitsOf, window}
+use Rattle.field.specs.Bits.{value, bitsOf}
+use Rattle.field.specs.Spans.{window}
 use Rattle.field.proofs.Window.{number-step}
 use Rattle.field.proofs.number.Statement.{statement}
 use Rattle.field.proofs.number.Tie as tie

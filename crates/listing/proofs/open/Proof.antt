@@ -1,6 +1,6 @@
 -- `listing::open` meets its contract. Assumes nothing.
 use mathlib.Core.Path.{sym, ap, _∙_}
-use Rattle.spach.specs.Refusal.{answered}
+use Rattle.spach.specs.Answered.{answered}
 use Rattle.receiver.specs.Receiver.{blankReceiver}
 use Rattle.listing.proofs.Opened.{zero-refused, open-short, open-made, open-refused, accepted}
 use borrow.Author.Needs.{needs}

@@ -2,7 +2,8 @@
 use mathlib.Core.Path.{_≡_, refl, ap}
 use Prim.Native.Nat.{_-_}
 use lib.ListN.{length}
-use Rattle.spach.specs.Refusal.{gives, answered}
+use Rattle.spach.specs.Refusal.{gives}
+use Rattle.spach.specs.Answered.{answered}
 use Rattle.transfer.specs.State.{blankView, newOf}
 use Rattle.sender.specs.declared.Moved.{Moved}
 use Rattle.sender.specs.Answers.{verdictOf, made}

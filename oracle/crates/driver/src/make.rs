@@ -19,6 +19,7 @@ use bts136::harness::{
 use std::{collections::BTreeSet, fs, io, path::Path, process::ExitCode};
 
 mod apart;
+mod asked;
 mod lives;
 mod senders;
 
@@ -94,6 +95,10 @@ fn fixed_script() -> Vec<u8> {
     script.timer_states();
     script.procedure_states();
     script.told_and_made();
+    script.filler_starts();
+    script.skipped();
+    script.longest_asked();
+    script.active_throughout();
     script.0
 }
 

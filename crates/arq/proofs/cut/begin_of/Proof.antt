@@ -7,11 +7,11 @@ use Rattle.arq.proofs.cut.begin_of.Tie as tie
 room-of-requires : tie.Need-room-of-requires
 room-of-requires c κs = search needs
 
-mul-least : tie.Need-mul-least
-mul-least c = search needs
+mul-lesser : tie.Need-mul-lesser
+mul-lesser c = search needs
 
-least-requires : tie.Need-least-requires
-least-requires c κs = search needs
+lesser-requires : tie.Need-lesser-requires
+lesser-requires c κs = search needs
 
 begin-octets-requires : tie.Need-begin-octets-requires
 begin-octets-requires c κs = search needs
@@ -28,15 +28,15 @@ a-begin-requires c κs = search needs
 returns : tie.Need-returns
 returns c =
     let a = c .before .before .before .before .before .args in
-    begin-cut (a .header) (a .identity) (a .message .now) (c .before .before .before .room-of .ensures .0) (c .before .before .least .ensures) (c .before .begin-octets .ensures) (c .a-begin .ensures)
+    begin-cut (a .header) (a .identity) (a .message .now) (c .before .before .before .room-of .ensures .0) (c .before .before .lesser .ensures) (c .before .begin-octets .ensures) (c .a-begin .ensures)
 
 pub begin-of-spec : {M : Type 1} → statement M
 begin-of-spec =
     tie.close
     (tie.spec
     room-of-requires
-    mul-least
-    least-requires
+    mul-lesser
+    lesser-requires
     begin-octets-requires
     cast-a-begin
     cast-a-begin-2

@@ -1,7 +1,7 @@
 -- `arq::read::decode` meets its contract. Assumes nothing.
 use mathlib.Core.Path.{sym, ap, _∙_}
 use borrow.Author.Needs.{needs}
-use Rattle.spach.specs.Refusal.{answered}
+use Rattle.spach.specs.Answered.{answered}
 use Rattle.spach.specs.Header.{headerAAnswer}
 use Rattle.arq.specs.Frame.{blankFrame}
 use Rattle.arq.proofs.Decoded.{decode-length, decode-padding, decode-header}

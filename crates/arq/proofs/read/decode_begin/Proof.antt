@@ -2,7 +2,7 @@
 use mathlib.Core.Path.{refl, ap, _∙_}
 use borrow.Author.Needs.{needs}
 use Rattle.field.specs.Bits.{bitsOf}
-use Rattle.spach.specs.Refusal.{answered}
+use Rattle.spach.specs.Answered.{answered}
 use Rattle.arq.specs.Frame.{blankFrame}
 use Rattle.arq.proofs.Decoded.{begin-reserved, begin-filler, begin-read}
 use Rattle.arq.proofs.read.decode_begin.Statement.{statement}

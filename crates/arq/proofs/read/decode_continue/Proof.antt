@@ -3,7 +3,7 @@ use mathlib.Core.Path.{ap, _∙_}
 use mathlib.Core.Bool.{not}
 use lib.Dec.{eqb}
 use borrow.Author.Needs.{needs}
-use Rattle.spach.specs.Refusal.{answered}
+use Rattle.spach.specs.Answered.{answered}
 use Rattle.field.specs.Bits.{bitsOf}
 use Rattle.arq.specs.Frame.{blankFrame}
 use Rattle.arq.proofs.Decoded.{continue-reserved, continue-number, continue-read}

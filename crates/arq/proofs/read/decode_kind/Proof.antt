@@ -4,7 +4,7 @@ use native.Mathlib.Omega.{arith}
 use borrow.Author.Needs.{needs}
 use Rattle.field.specs.Bits.{bitsOf}
 use Rattle.field.proofs.Laws.{length-bitsOf}
-use Rattle.spach.specs.Refusal.{answered}
+use Rattle.spach.specs.Answered.{answered}
 use Rattle.spach.specs.Header.{addressAnswer}
 use Rattle.arq.specs.Frame.{blankFrame}
 use Rattle.arq.proofs.Decoded.{kind-6, kind-other, kind-5, address-ends}

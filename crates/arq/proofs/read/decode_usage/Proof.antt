@@ -1,7 +1,7 @@
 -- `arq::read::decode_usage` meets its contract. Assumes nothing.
 use mathlib.Core.Path.{ap, _∙_}
 use borrow.Author.Needs.{needs}
-use Rattle.spach.specs.Refusal.{answered}
+use Rattle.spach.specs.Answered.{answered}
 use Rattle.field.specs.Bits.{bitsOf}
 use Rattle.arq.specs.Frame.{blankFrame}
 use Rattle.arq.proofs.Decoded.{usage-pch, usage-other}

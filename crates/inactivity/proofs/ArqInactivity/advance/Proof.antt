@@ -3,7 +3,7 @@ use borrow.Author.Needs.{needs}
 use mathlib.Core.Path.{sym, ap, _∙_}
 use Rattle.inactivity.specs.Inactivity.{acts, admission, dueOf, advanceOf}
 use Rattle.inactivity.proofs.Calls.{admit-stops, admit-passes}
-use Rattle.inactivity.proofs.Kept.{kept, sound-advance, sound-admitted}
+use Rattle.inactivity.proofs.Invariant.{kept, sound-advance, sound-admitted}
 use Rattle.inactivity.proofs.ArqInactivity.advance.Statement.{statement}
 use Rattle.inactivity.proofs.ArqInactivity.advance.Tie as tie
 

@@ -1,6 +1,6 @@
 -- `inactivity::ArqInactivity::new` meets its contract. Assumes nothing.
 use borrow.Author.Needs.{needs}
-use Rattle.inactivity.proofs.Kept.{sound-new}
+use Rattle.inactivity.proofs.Invariant.{sound-new}
 use Rattle.inactivity.proofs.ArqInactivity.new.Statement.{statement}
 use Rattle.inactivity.proofs.ArqInactivity.new.Tie as tie
 

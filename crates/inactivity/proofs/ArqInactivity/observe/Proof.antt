@@ -1,7 +1,7 @@
 -- `inactivity::ArqInactivity::observe` meets its contract. Assumes nothing.
 use borrow.Author.Tests.{lt-ltb, le-ltb}
 use Rattle.inactivity.specs.Inactivity.{observeOf}
-use Rattle.inactivity.proofs.Kept.{kept, sound-observe}
+use Rattle.inactivity.proofs.Invariant.{kept, sound-observe}
 use Rattle.inactivity.proofs.ArqInactivity.observe.Statement.{statement}
 use Rattle.inactivity.proofs.ArqInactivity.observe.Tie as tie
 

@@ -1,7 +1,7 @@
 -- `inactivity::ArqInactivity::received_frame` meets its contract. Assumes nothing.
 use borrow.Author.Needs.{needs}
 use Rattle.inactivity.proofs.Calls.{received-stops, received-goes}
-use Rattle.inactivity.proofs.Kept.{kept, sound-received-frame}
+use Rattle.inactivity.proofs.Invariant.{kept, sound-received-frame}
 use Rattle.inactivity.proofs.ArqInactivity.received_frame.Statement.{statement}
 use Rattle.inactivity.proofs.ArqInactivity.received_frame.Tie as tie
 

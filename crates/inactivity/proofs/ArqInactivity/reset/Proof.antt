@@ -1,7 +1,7 @@
 -- `inactivity::ArqInactivity::reset` meets its contract. Assumes nothing.
 use borrow.Author.Needs.{needs}
 use Rattle.inactivity.specs.Inactivity.{resetOf}
-use Rattle.inactivity.proofs.Kept.{kept, sound-reset}
+use Rattle.inactivity.proofs.Invariant.{kept, sound-reset}
 use Rattle.inactivity.proofs.ArqInactivity.reset.Statement.{statement}
 use Rattle.inactivity.proofs.ArqInactivity.reset.Tie as tie
 

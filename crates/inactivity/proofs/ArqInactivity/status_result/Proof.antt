@@ -1,9 +1,10 @@
 -- `inactivity::ArqInactivity::status_result` meets its contract. Assumes nothing.
 use mathlib.Core.Path.{ap, _∙_}
 use borrow.Author.Needs.{needs}
-use Rattle.inactivity.specs.Inactivity.{acts, resultAt}
+use Rattle.inactivity.specs.Inactivity.{acts}
+use Rattle.inactivity.specs.Result.{resultAt}
 use Rattle.inactivity.proofs.Calls.{reported-foreign, reported-stops, reported-goes}
-use Rattle.inactivity.proofs.Kept.{kept, sound-reported}
+use Rattle.inactivity.proofs.Invariant.{kept, sound-reported}
 use Rattle.inactivity.proofs.ArqInactivity.status_result.Statement.{statement}
 use Rattle.inactivity.proofs.ArqInactivity.status_result.Tie as tie
 

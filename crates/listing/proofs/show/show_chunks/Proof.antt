@@ -39,7 +39,7 @@ loop-again c =
     (chunk .1, chunks-more (i .1) (i .2 (c .before .before .loop-test .taken)) (chunk .0), full-uncut (chunk .0))
 
 returns : tie.Need-returns Inv-loop μ-loop
-returns c = c .before .loop .inv .1
+returns c = (c .before .loop .inv .1, c .loop-test .left)
 
 pub show-chunks-spec : {M : Type 1} → statement M
 show-chunks-spec =

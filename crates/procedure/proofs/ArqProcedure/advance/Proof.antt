@@ -1,10 +1,10 @@
 -- `procedure::ArqProcedure::advance` meets its contract. Assumes nothing.
 use Rattle.procedure.specs.Procedure.{dueAt, advanceOf}
 use Rattle.procedure.proofs.Calls.{admits-stops, admits-passes}
-use Rattle.procedure.proofs.Kept.{kept, sound-advance}
+use Rattle.procedure.proofs.Invariant.{kept, sound-advance}
 use mathlib.Core.Path.{sym, ap, _∙_}
 use Rattle.inactivity.specs.Inactivity.{admission}
-use Rattle.inactivity.proofs.Kept.{sound-admitted}
+use Rattle.inactivity.proofs.Invariant.{sound-admitted}
 use borrow.Author.Needs.{needs}
 use Rattle.procedure.proofs.ArqProcedure.advance.Statement.{statement}
 use Rattle.procedure.proofs.ArqProcedure.advance.Tie as tie

@@ -1,6 +1,6 @@
 -- `procedure::ArqProcedure::receive` meets its contract. Assumes nothing.
 use Rattle.procedure.proofs.Calls.{receive-refused, receive-goes}
-use Rattle.procedure.proofs.Kept.{kept-out, sound-receive, let-through-gives}
+use Rattle.procedure.proofs.Invariant.{kept-out, sound-receive, let-through-gives}
 use mathlib.Core.Path.{sym, ap, _∙_}
 use Rattle.inactivity.specs.Inactivity.{admission}
 use borrow.Author.Needs.{needs}

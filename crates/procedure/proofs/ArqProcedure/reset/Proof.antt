@@ -1,6 +1,6 @@
 -- `procedure::ArqProcedure::reset` meets its contract. Assumes nothing.
 use Rattle.procedure.specs.Procedure.{resetOf}
-use Rattle.procedure.proofs.Kept.{kept, sound-reset}
+use Rattle.procedure.proofs.Invariant.{kept, sound-reset}
 use borrow.Author.Needs.{needs}
 use Rattle.procedure.proofs.ArqProcedure.reset.Statement.{statement}
 use Rattle.procedure.proofs.ArqProcedure.reset.Tie as tie

@@ -1,7 +1,7 @@
 -- `procedure::ArqProcedure::status_sent` meets its contract. Assumes nothing.
 use Rattle.procedure.specs.Procedure.{sentAt}
 use Rattle.procedure.proofs.Calls.{sent-foreign, sent-own, admits-stops, admits-passes}
-use Rattle.procedure.proofs.Kept.{kept, sound-status-sent}
+use Rattle.procedure.proofs.Invariant.{kept, sound-status-sent}
 use borrow.Author.Needs.{needs}
 use Rattle.procedure.proofs.ArqProcedure.status_sent.Statement.{statement}
 use Rattle.procedure.proofs.ArqProcedure.status_sent.Tie as tie

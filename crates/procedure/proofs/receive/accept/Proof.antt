@@ -1,5 +1,5 @@
 -- `procedure::receive::accept` meets its contract. Assumes nothing.
-use Rattle.procedure.specs.Procedure.{accepted}
+use Rattle.procedure.specs.Parts.{accepted}
 use borrow.Author.Needs.{needs}
 use Rattle.procedure.proofs.receive.accept.Statement.{statement}
 use Rattle.procedure.proofs.receive.accept.Tie as tie

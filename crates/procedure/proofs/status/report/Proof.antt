@@ -27,8 +27,8 @@ event-requires-2 c κs = search needs
 returns-2 : tie.Need-returns-2
 returns-2 c = rw (c .event2 .ensures, c .before .end2 .ensures, c .before .before .before .enum-told2 .given .1, c .before .before .if1 .taken)
 
-reported-requires : tie.Need-reported-requires
-reported-requires c κs = search needs
+after-sent-requires : tie.Need-after-sent-requires
+after-sent-requires c κs = search needs
 
 with-timer-requires : tie.Need-with-timer-requires
 with-timer-requires c κs = search needs
@@ -37,7 +37,7 @@ event-requires-3 : tie.Need-event-requires-3
 event-requires-3 c κs = search needs
 
 returns-3 : tie.Need-returns-3
-returns-3 c = rw (c .event3 .ensures, c .before .with-timer .ensures, c .before .before .reported .ensures, c .before .before .before .before .before .enum-told2 .given .1, c .before .before .before .before .if1 .left)
+returns-3 c = rw (c .event3 .ensures, c .before .with-timer .ensures, c .before .before .after-sent .ensures, c .before .before .before .before .before .enum-told2 .given .1, c .before .before .before .before .if1 .left)
 
 pub report-spec : {M : Type 1} → statement M
 report-spec =
@@ -51,7 +51,7 @@ report-spec =
     end-requires-2
     event-requires-2
     returns-2
-    reported-requires
+    after-sent-requires
     with-timer-requires
     event-requires-3
     returns-3)

@@ -4,10 +4,11 @@ use Prim.Native.Nat.{_-_, _*_, _≤_, min}
 use native.Mathlib.Omega.{arith}
 use lib.ListN.{length, take, drop}
 use borrow.Author.Needs.{needs}
-use Rattle.field.specs.Bits.{bitsOf, octets, splice, Packs}
+use Rattle.field.specs.Bits.{bitsOf, octets, splice}
+use Rattle.field.specs.Spans.{Packs}
 use Rattle.field.specs.Layout.{zeros}
 use Rattle.field.proofs.Laws.{repack}
-use Rattle.receiver.specs.Receiver.{needed, startOf}
+use Rattle.receiver.specs.Receiver.{needed, firstBit}
 use Rattle.receiver.proofs.Assembled.{parts, parts-zero, parts-suc, parts-all}
 use Rattle.receiver.proofs.message.assemble.Statement.{statement}
 use Rattle.receiver.proofs.message.assemble.Tie as tie
@@ -50,10 +51,10 @@ loop-again c =
     let seven : length (s .transaction .«begin_data») ≡ 7 = search needs in
     let all : length (s .slots) ≡ 260 = search needs in
     let e = c .before .before .before .before .before .before .needed-of .ensures in
-    let run = take (min 79 (8 * s .transaction .«message_octets» - startOf s k)) (drop (80 * k) (bitsOf (s .slots))) in (
+    let run = take (min 79 (8 * s .transaction .«message_octets» - firstBit s k)) (drop (80 * k) (bitsOf (s .slots))) in (
       omega arith,
       c .before .put-part .kept .0 ∙ c .before .before .before .before .loop .inv .1,
-      repack (c .before .put-part .ensures) (ap (splice (startOf s k) run) (c .before .before .before .before .loop .inv .2 .as-bits) ∙ parts-suc s seven all k (omega arith) (omega arith)),
+      repack (c .before .put-part .ensures) (ap (splice (firstBit s k) run) (c .before .before .before .before .loop .inv .2 .as-bits) ∙ parts-suc s seven all k (omega arith) (omega arith)),
     )
 
 returns : tie.Need-returns Inv-loop μ-loop

@@ -44,8 +44,8 @@ returns-3 c =
     let a = c .before .before .before .before .before .before .args in
     begin-foreign (a .s) (a .buffer .now) (a .frame) (c .before .before .before .enum-told2 .given .1) (c .before .before .equals .ensures) (not-true _ (c .before .if2 .taken)) (c .ignore2 .ensures (a .buffer .now))
 
-begun-by-requires : tie.Need-begun-by-requires
-begun-by-requires c κs = search needs
+replaced-by-requires : tie.Need-replaced-by-requires
+replaced-by-requires c κs = search needs
 
 finish-with-requires : tie.Need-finish-with-requires
 finish-with-requires c κs = search needs
@@ -56,7 +56,7 @@ same-length-2 c = search needs
 returns-4 : tie.Need-returns-4
 returns-4 c =
     let a = c .before .before .before .before .before .before .before .before .before .before .args in
-    begin-own (a .s) (a .buffer .now) (a .frame) (c .before .before .before .before .before .before .before .enum-told2 .given .1) (c .before .before .before .before .before .before .equals .ensures) (not-false _ (c .before .before .before .before .before .if2 .left)) (c .before .before .before .before .begun-by .ensures) (c .before .before .finish-with .ensures)
+    begin-own (a .s) (a .buffer .now) (a .frame) (c .before .before .before .before .before .before .before .enum-told2 .given .1) (c .before .before .before .before .before .before .equals .ensures) (not-false _ (c .before .before .before .before .before .if2 .left)) (c .before .before .before .before .replaced-by .ensures) (c .before .before .finish-with .ensures)
 
 pub push-frame-spec : {M : Type 1} → statement M
 push-frame-spec =
@@ -73,7 +73,7 @@ push-frame-spec =
     equals-requires
     ignore-requires-2
     returns-3
-    begun-by-requires
+    replaced-by-requires
     finish-with-requires
     same-length-2
     returns-4)

@@ -3,7 +3,8 @@ use mathlib.Core.Path.{_≡_, ap, _∙_}
 use borrow.Author.Needs.{needs}
 use Rattle.transfer.specs.Advance.{walked, advanceOf}
 use Rattle.transfer.specs.State.{says}
-use Rattle.transfer.proofs.Calls.{advance-call-kept}
+use Rattle.transfer.specs.History.{Advance}
+use Rattle.transfer.proofs.Lives.{does-kept}
 use Rattle.sender.specs.Arrays.{viewOf, lent}
 use Rattle.sender.proofs.Admitted.{asked, Through, turned-back, goes-on, walked-by, through-whole}
 use Rattle.sender.proofs.Slots.{whole-after}
@@ -47,7 +48,7 @@ returns-2 c =
     let a = b .args in
     let k = through (c .before) in
     let p : says tt (viewOf (c .walk .result)) ≡ advanceOf (viewOf (a .self)) (lent (a .store .now) (a .words .now)) (a .block) (a .now-ms) = ap (says tt) (walked-by k (b .pre .sound) (c .walk .ensures .1)) ∙ goes-on k (λ w. says tt (walked w)) in
-    whole-after (c .walk .ensures .0) p (advance-call-kept (viewOf (a .self)) (lent (a .store .now) (a .words .now)) (a .block) (a .now-ms) (b .pre .sound))
+    whole-after (c .walk .ensures .0) p (does-kept (viewOf (a .self)) (lent (a .store .now) (a .words .now)) (Advance (a .block) (a .now-ms)) (b .pre .sound))
 
 pub advance-spec : {M : Type 1} → statement M
 advance-spec =

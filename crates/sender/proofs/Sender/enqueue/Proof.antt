@@ -4,7 +4,8 @@ use borrow.Author.Needs.{needs}
 use Rattle.transfer.specs.declared.TransferToken.{TransferToken}
 use Rattle.transfer.specs.Enqueue.{grantOf, accepts, enqueueOf}
 use Rattle.transfer.specs.State.{Out, goesOn}
-use Rattle.transfer.proofs.Kept.{enqueue-call-kept}
+use Rattle.transfer.specs.History.{Enqueue}
+use Rattle.transfer.proofs.Lives.{does-kept}
 use Rattle.sender.specs.Answers.{grantAnswer}
 use Rattle.sender.specs.Arrays.{viewOf, lent}
 use Rattle.sender.proofs.Admitted.{asked, Through, turned-back-out, through-room, through-whole, enqueue-refused, enqueue-granted}
@@ -76,7 +77,7 @@ returns-3 c =
     let k = through (c .before .before .before .before .before .before .before .before) in
     let r = c .before .before .accept in
     let p = enqueue-granted k (a .request) (a .message .now) (c .before .before .before .before .before .before .before .grant .ensures) (c .before .before .before .before .before .frames .given .1) (r .ensures .1) in
-    (p, whole-by (r .ensures .0) (ap (λ (o : Out TransferToken). o .sender) p) (enqueue-call-kept (viewOf (a .self)) (lent (a .store .now) (a .words .now)) (a .request) (a .message .now) (a .block) (a .now-ms) (b .pre .sound)))
+    (p, whole-by (r .ensures .0) (ap (λ (o : Out TransferToken). o .sender) p) (does-kept (viewOf (a .self)) (lent (a .store .now) (a .words .now)) (Enqueue (a .request) (a .message .now) (a .block) (a .now-ms)) (b .pre .sound)))
 
 pub enqueue-spec : {M : Type 1} → statement M
 enqueue-spec =

@@ -1,6 +1,6 @@
 -- `sender::Sender::identity_for_echo` meets its contract. Assumes nothing.
 use borrow.Author.Tests.{not-true, not-false}
-use Rattle.transfer.specs.declared.Addressee.the-variants as addressees
+use mathlib.Core.Option.{none, some}
 use Rattle.transfer.specs.Queries.{identityForEchoOf}
 use Rattle.transfer.specs.State.{ofEcho}
 use Rattle.sender.specs.Arrays.{viewOf}
@@ -16,14 +16,14 @@ unfolding identityForEchoOf
 returns c =
     let a = c .before .before .before .before .before .args in
     let f = c .before .before .before .before .find in
-    seek-none (ofEcho (a .echo)) (viewOf (a .self) .transfers) addressees.Nothing (λ place x. addressees.Identity (x .parcel .identity)) (f .ensures) (not-true (f .result .held) (c .if1 .taken))
+    seek-none (ofEcho (a .echo)) (viewOf (a .self) .transfers) none (λ place x. some (x .parcel .identity)) (f .ensures) (not-true (f .result .held) (c .if1 .taken))
 
 returns-2 : tie.Need-returns-2
 unfolding identityForEchoOf
 returns-2 c =
     let a = c .before .before .before .before .before .args in
     let f = c .before .before .before .before .find in
-    seek-found (ofEcho (a .echo)) (viewOf (a .self) .transfers) addressees.Nothing (λ place x. addressees.Identity (x .parcel .identity)) (f .ensures) (not-false (f .result .held) (c .if1 .left))
+    seek-found (ofEcho (a .echo)) (viewOf (a .self) .transfers) none (λ place x. some (x .parcel .identity)) (f .ensures) (not-false (f .result .held) (c .if1 .left))
 
 pub identity-for-echo-spec : {M : Type 1} → statement M
 identity-for-echo-spec = tie.close (tie.spec find-requires returns returns-2)

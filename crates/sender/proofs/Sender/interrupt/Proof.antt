@@ -5,7 +5,8 @@ use borrow.Author.Needs.{needs}
 use borrow.Author.Tests.{not-true, not-false}
 use Rattle.transfer.specs.Prepare.{interrupted, interruptOf}
 use Rattle.transfer.specs.State.{says}
-use Rattle.transfer.proofs.Calls.{interrupt-call-kept}
+use Rattle.transfer.specs.History.{Interrupt}
+use Rattle.transfer.proofs.Lives.{does-kept}
 use Rattle.sender.specs.Arrays.{viewOf, lent}
 use Rattle.sender.proofs.Admitted.{clocked, asked, Through, turned-back, goes-on, through-whole, interrupt-none, interrupt-found}
 use Rattle.sender.proofs.Slots.{whole-after}
@@ -65,7 +66,7 @@ returns-3 c =
     let found = c .before .before .before .find in
     let p : says true (viewOf (c .walk .result)) ≡ interruptOf (viewOf (a .self)) (lent (a .store .now) (a .words .now)) (a .echo) (a .block) (a .now-ms) =
     interrupt-found (clocked (viewOf (a .self)) (a .block) (a .now-ms)) (a .echo) (found .ensures) (not-false (found .result .held) (c .before .if1 .left)) (c .walk .ensures .1) ∙ goes-on k (λ w. interrupted w (a .echo)) in
-    whole-after (c .walk .ensures .0) p (interrupt-call-kept (viewOf (a .self)) (lent (a .store .now) (a .words .now)) (a .echo) (a .block) (a .now-ms) (b .pre .sound))
+    whole-after (c .walk .ensures .0) p (does-kept (viewOf (a .self)) (lent (a .store .now) (a .words .now)) (Interrupt (a .echo) (a .block) (a .now-ms)) (b .pre .sound))
 
 pub interrupt-spec : {M : Type 1} → statement M
 interrupt-spec =

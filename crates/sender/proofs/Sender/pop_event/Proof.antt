@@ -1,5 +1,6 @@
 -- `sender::Sender::pop_event` meets its contract. Assumes nothing.
 use mathlib.Core.Path.{_≡_, ap, _∙_}
+use mathlib.Core.List.{[]}
 use mathlib.Core.Option.{some}
 use Prim.Native.Nat.{_<_}
 use native.Mathlib.Omega.{arith}
@@ -10,7 +11,8 @@ use Rattle.transfer.specs.declared.Event.the-variants.{Complete}
 use Rattle.transfer.specs.Numbers.{endingOf}
 use Rattle.transfer.specs.Queries.{popEventOf}
 use Rattle.transfer.specs.State.{View, withEvents, says}
-use Rattle.transfer.proofs.Kept.{pop-event-call-kept}
+use Rattle.transfer.specs.History.{PopEvent}
+use Rattle.transfer.proofs.Lives.{does-kept}
 use Rattle.sender.specs.declared.EventSlot.{EventSlot}
 use Rattle.sender.specs.declared.Sender.{Sender}
 use Rattle.sender.specs.Arrays.{viewOf}
@@ -55,7 +57,7 @@ returns-2 c =
     let s = b .args .t1 in
     let n = waiting b in
     let said = taken s (omega arith) (omega arith) (c .popped .ensures .1) in
-    whole-after (c .popped .ensures .0) said (pop-event-call-kept (viewOf s) (b .pre .sound))
+    whole-after (c .popped .ensures .0) said (does-kept (viewOf s) (record { octets = []; words = [] }) PopEvent (b .pre .sound))
 
 pub pop-event-spec : {M : Type 1} → statement M
 pop-event-spec = tie.close (tie.spec returns element-copy-out-slot popped-requires returns-2)

@@ -5,7 +5,8 @@ use Rattle.spach.specs.Refusal.{Outcome}
 use Rattle.transfer.specs.Advance.{walked}
 use Rattle.transfer.specs.Prepare.{choose, prepareOf}
 use Rattle.transfer.specs.State.{View}
-use Rattle.transfer.proofs.Calls.{prepare-call-kept}
+use Rattle.transfer.specs.History.{Prepare}
+use Rattle.transfer.proofs.Lives.{does-kept}
 use Rattle.sender.specs.declared.Selection.{Selection}
 use Rattle.sender.specs.Answers.{prepared, told}
 use Rattle.sender.specs.Arrays.{viewOf, lent}
@@ -61,7 +62,7 @@ returns-2 c =
     let k = through (c .before .before) in
     let p : prepared (c .choose .result) ≡ told (prepareOf (viewOf (a .self)) (lent (a .store .now) (a .words .now)) (a .block) (a .now-ms)) =
     c .choose .ensures .1 ∙ (ap (λ (u : View). told (choose u (a .store .now))) (walked-by k (b .pre .sound) (c .before .walk .ensures .1)) ∙ ap told (goes-on k (λ w. choose (walked w) (a .store .now)))) in
-    (p, whole-by (c .choose .ensures .0) (ap (λ (x : (Outcome Unit × Selection) × View). x .1) p) (prepare-call-kept (viewOf (a .self)) (lent (a .store .now) (a .words .now)) (a .block) (a .now-ms) (b .pre .sound)))
+    (p, whole-by (c .choose .ensures .0) (ap (λ (x : (Outcome Unit × Selection) × View). x .1) p) (does-kept (viewOf (a .self)) (lent (a .store .now) (a .words .now)) (Prepare (a .block) (a .now-ms)) (b .pre .sound)))
 
 pub prepare-spec : {M : Type 1} → statement M
 prepare-spec =

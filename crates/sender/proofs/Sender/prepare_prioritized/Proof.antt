@@ -5,7 +5,8 @@ use Rattle.spach.specs.Refusal.{Outcome}
 use Rattle.transfer.specs.Advance.{walked}
 use Rattle.transfer.specs.Prepare.{prioritizeAt, preparePrioritizedOf}
 use Rattle.transfer.specs.State.{View}
-use Rattle.transfer.proofs.Calls.{prepare-prioritized-call-kept}
+use Rattle.transfer.specs.History.{PreparePrioritized}
+use Rattle.transfer.proofs.Lives.{does-kept}
 use Rattle.sender.specs.declared.Selection.{Selection}
 use Rattle.sender.specs.Answers.{prepared, told}
 use Rattle.sender.specs.Arrays.{viewOf, lent}
@@ -61,7 +62,7 @@ returns-2 c =
     let k = through (c .before .before) in
     let p : prepared (c .prioritize .result) ≡ told (preparePrioritizedOf (viewOf (a .self)) (lent (a .store .now) (a .words .now)) (a .echo) (a .block) (a .now-ms)) =
     c .prioritize .ensures .1 ∙ (ap (λ (u : View). told (prioritizeAt u (a .store .now) (a .echo))) (walked-by k (b .pre .sound) (c .before .walk .ensures .1)) ∙ ap told (goes-on k (λ w. prioritizeAt (walked w) (a .store .now) (a .echo)))) in
-    (p, whole-by (c .prioritize .ensures .0) (ap (λ (x : (Outcome Unit × Selection) × View). x .1) p) (prepare-prioritized-call-kept (viewOf (a .self)) (lent (a .store .now) (a .words .now)) (a .echo) (a .block) (a .now-ms) (b .pre .sound)))
+    (p, whole-by (c .prioritize .ensures .0) (ap (λ (x : (Outcome Unit × Selection) × View). x .1) p) (does-kept (viewOf (a .self)) (lent (a .store .now) (a .words .now)) (PreparePrioritized (a .echo) (a .block) (a .now-ms)) (b .pre .sound)))
 
 pub prepare-prioritized-spec : {M : Type 1} → statement M
 prepare-prioritized-spec =

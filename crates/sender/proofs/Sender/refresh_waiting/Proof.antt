@@ -4,7 +4,8 @@ use borrow.Author.Needs.{needs}
 use Rattle.transfer.specs.Advance.{walked}
 use Rattle.transfer.specs.Refresh.{queueWaiting, serveOldest, refreshWaitingOf}
 use Rattle.transfer.specs.State.{says}
-use Rattle.transfer.proofs.Calls.{refresh-waiting-call-kept}
+use Rattle.transfer.specs.History.{RefreshWaiting}
+use Rattle.transfer.proofs.Lives.{does-kept}
 use Rattle.sender.specs.Arrays.{viewOf, lent}
 use Rattle.sender.proofs.Admitted.{asked, Through, turned-back, goes-on, walked-by, through-whole, walked-whole}
 use Rattle.sender.proofs.Slots.{whole-after}
@@ -56,7 +57,7 @@ returns-2 c =
     let e = walked-by k (b .pre .sound) (c .before .before .walk .ensures .1) in
     let p : says tt (viewOf (c .serve-oldest .result)) ≡ refreshWaitingOf (viewOf (a .self)) (lent (a .store .now) (a .words .now)) (a .block) (a .now-ms) =
     ap (says tt) (c .serve-oldest .ensures .1 ∙ ap serveOldest (c .before .queue-waiting .ensures .1 ∙ ap queueWaiting e)) ∙ goes-on k (λ w. says tt (serveOldest (queueWaiting (walked w)))) in
-    whole-after (c .serve-oldest .ensures .0) p (refresh-waiting-call-kept (viewOf (a .self)) (lent (a .store .now) (a .words .now)) (a .block) (a .now-ms) (b .pre .sound))
+    whole-after (c .serve-oldest .ensures .0) p (does-kept (viewOf (a .self)) (lent (a .store .now) (a .words .now)) (RefreshWaiting (a .block) (a .now-ms)) (b .pre .sound))
 
 pub refresh-waiting-spec : {M : Type 1} → statement M
 refresh-waiting-spec =

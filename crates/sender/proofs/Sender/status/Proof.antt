@@ -4,7 +4,8 @@ use borrow.Author.Needs.{needs}
 use Rattle.transfer.specs.Advance.{walked}
 use Rattle.transfer.specs.State.{View}
 use Rattle.transfer.specs.Status.{statusAt, statusOf}
-use Rattle.transfer.proofs.Calls.{status-call-kept}
+use Rattle.transfer.specs.History.{Status}
+use Rattle.transfer.proofs.Lives.{does-kept}
 use Rattle.sender.specs.Answers.{sought}
 use Rattle.sender.specs.Arrays.{viewOf, lent}
 use Rattle.sender.proofs.Admitted.{asked, Through, turned-back, goes-on, walked-by, through-whole, walked-whole}
@@ -53,7 +54,7 @@ returns-2 c =
     let k = through (c .before .before) in
     let p : sought (c .shows .result) ≡ statusOf (viewOf (a .self)) (lent (a .store .now) (a .words .now)) (a .status) (a .block) (a .now-ms) =
     c .shows .ensures .1 ∙ (ap (λ (u : View). statusAt u (a .status)) (walked-by k (b .pre .sound) (c .before .walk .ensures .1)) ∙ goes-on k (λ w. statusAt (walked w) (a .status))) in
-    whole-after (c .shows .ensures .0) p (status-call-kept (viewOf (a .self)) (lent (a .store .now) (a .words .now)) (a .status) (a .block) (a .now-ms) (b .pre .sound))
+    whole-after (c .shows .ensures .0) p (does-kept (viewOf (a .self)) (lent (a .store .now) (a .words .now)) (Status (a .status) (a .block) (a .now-ms)) (b .pre .sound))
 
 pub status-spec : {M : Type 1} → statement M
 status-spec =

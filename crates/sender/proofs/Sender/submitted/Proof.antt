@@ -3,7 +3,8 @@ use mathlib.Core.Path.{_≡_, ap, _∙_}
 use borrow.Author.Needs.{needs}
 use Rattle.transfer.specs.State.{Out}
 use Rattle.transfer.specs.Submitted.{submittedAt, submittedOf}
-use Rattle.transfer.proofs.Kept.{submitted-call-kept}
+use Rattle.transfer.specs.History.{Submitted}
+use Rattle.transfer.proofs.Lives.{does-kept}
 use Rattle.sender.specs.Answers.{submitted}
 use Rattle.sender.specs.Arrays.{viewOf, lent}
 use Rattle.sender.proofs.Admitted.{clocked, clock-whole, lent-room, submitted-short, submitted-late, submitted-on, submitted-kept, submitted-octets}
@@ -59,7 +60,7 @@ returns-3 c =
     let p : submitted (s .result) (lent (a .store .now) (s .last .1 .1 .0)) ≡ submittedOf (viewOf (a .self)) (lent (a .store .now) (a .words .now)) (a .token) (a .block) (a .now-ms) =
     submitted-octets (clocked (viewOf (a .self)) (a .block) (a .now-ms)) (a .store .now) (a .words .now) (a .token) (s .ensures .0 .1) (s .ensures .1)
     ∙ submitted-on (viewOf (a .self)) (a .store .now) (a .words .now) (a .block) (a .now-ms) (c .before .before .before .before .before .before .before .before .short .ensures) (λ w. submittedAt w (lent (a .store .now) (a .words .now)) (a .token)) (c .before .before .before .before .before .before .tick .ensures) (c .before .before .before .before .before .before .before .if1 .left) (c .before .before .before .before .enum-told .given .1) in
-    (p, whole-by (s .ensures .0 .0) (ap (λ (o : Out Unit). o .sender) p) (submitted-call-kept (viewOf (a .self)) (lent (a .store .now) (a .words .now)) (a .token) (a .block) (a .now-ms) (b .pre .sound)))
+    (p, whole-by (s .ensures .0 .0) (ap (λ (o : Out Unit). o .sender) p) (does-kept (viewOf (a .self)) (lent (a .store .now) (a .words .now)) (Submitted (a .token) (a .block) (a .now-ms)) (b .pre .sound)))
 
 pub submitted-spec : {M : Type 1} → statement M
 submitted-spec = tie.close (tie.spec short-requires returns tick-requires enum-known-error returns-2 enum-told submit-requires same-length returns-3)

@@ -1,10 +1,9 @@
 -- `sender::Sender::submitted_message` meets its contract. Assumes nothing.
 use mathlib.Core.Path.{_≡_, sym, ap, _∙_}
 use mathlib.Core.Bool.{Bool, true, false, cond}
+use mathlib.Core.Option.{Option, none, some}
 use borrow.Author.Tests.{not-true, not-false}
 use Prim.Native.Nat.{ℕ}
-use Rattle.transfer.specs.declared.CompletionAnswer.{CompletionAnswer}
-use Rattle.transfer.specs.declared.CompletionAnswer.the-variants as completions
 use Rattle.transfer.specs.declared.FrameToken.{FrameToken}
 use Rattle.transfer.specs.declared.Place.{Place}
 use Rattle.transfer.specs.declared.Transfer.{Transfer}
@@ -19,23 +18,23 @@ use Rattle.sender.proofs.Sender.submitted_message.Statement.{statement}
 use Rattle.sender.proofs.Sender.submitted_message.Tie as tie
 
 -- what is said of the transfer
-told : ℕ → Transfer → CompletionAnswer
-told place x = cond (full (x .parcel .frames) (wentOut x)) (completions.Completion (x .parcel .completion)) completions.Nothing
+told : ℕ → Transfer → Option ℕ
+told place x = cond (full (x .parcel .frames) (wentOut x)) (some (x .parcel .completion)) none
 
 module _ (v : View) (t : FrameToken) {r : Place} (e : r ≡ placeOf (ofGeneration (t .generation)) (v .transfers)) where
   -- no transfer has the generation
-  message-none : r .held ≡ false → completions.Nothing ≡ submittedMessageOf v t
+  message-none : r .held ≡ false → none ≡ submittedMessageOf v t
   unfolding submittedMessageOf told
-  message-none h = seek-none (ofGeneration (t .generation)) (v .transfers) completions.Nothing told e h
+  message-none h = seek-none (ofGeneration (t .generation)) (v .transfers) none told e h
 
   -- the one that has it, by the numbers of its frames and of those that went out
   message-found : (out : ℕ) (all : Bool) → r .held ≡ true → out ≡ wentOut (r .transfer) → full (r .transfer .parcel .frames) out ≡ all →
-      cond all (completions.Completion (r .transfer .parcel .completion)) completions.Nothing ≡ submittedMessageOf v t
+      cond all (some (r .transfer .parcel .completion)) none ≡ submittedMessageOf v t
   unfolding submittedMessageOf told
   message-found out all h o q =
       let x = r .transfer in
-      ap (λ (b : Bool). cond b (completions.Completion (x .parcel .completion)) completions.Nothing) (sym q ∙ ap (full (x .parcel .frames)) o)
-      ∙ seek-found (ofGeneration (t .generation)) (v .transfers) completions.Nothing told e h
+      ap (λ (b : Bool). cond b (some (x .parcel .completion)) none) (sym q ∙ ap (full (x .parcel .frames)) o)
+      ∙ seek-found (ofGeneration (t .generation)) (v .transfers) none told e h
 
 find-requires : tie.Need-find-requires
 find-requires c κs = c .before .pre .fitted

@@ -2,7 +2,8 @@
 use mathlib.Core.Path.{_≡_, _∙_}
 use borrow.Author.Needs.{needs}
 use Rattle.transfer.specs.Submitted.{transmittedAt, transmittedOf}
-use Rattle.transfer.proofs.Calls.{transmitted-call-kept}
+use Rattle.transfer.specs.History.{Transmitted}
+use Rattle.transfer.proofs.Lives.{does-kept}
 use Rattle.sender.specs.Answers.{confirmed}
 use Rattle.sender.specs.Arrays.{viewOf, lent}
 use Rattle.sender.proofs.Admitted.{asked, Through, turned-back, goes-on, through-room, through-whole}
@@ -50,7 +51,7 @@ returns-2 c =
     let a = b .args in
     let k = through (c .before) in
     let p : confirmed (c .confirm .result) ≡ transmittedOf (viewOf (a .self)) (lent (a .store .now) (a .words .now)) (a .token) (a .block) (a .now-ms) = c .confirm .ensures .1 ∙ goes-on k (λ w. transmittedAt w (a .words .now) (a .token)) in
-    whole-after (c .confirm .ensures .0) p (transmitted-call-kept (viewOf (a .self)) (lent (a .store .now) (a .words .now)) (a .token) (a .block) (a .now-ms) (b .pre .sound))
+    whole-after (c .confirm .ensures .0) p (does-kept (viewOf (a .self)) (lent (a .store .now) (a .words .now)) (Transmitted (a .token) (a .block) (a .now-ms)) (b .pre .sound))
 
 pub transmitted-spec : {M : Type 1} → statement M
 transmitted-spec =

@@ -4,9 +4,10 @@ use Prim.Native.Nat.{ℕ, _≤_, _<_}
 use native.Mathlib.Omega.{arith}
 use borrow.Author.Tests.{eq-eqb, ne-eqb, lt-ltb, le-ltb}
 use Rattle.token.specs.Token.{stop}
-use Rattle.spach.specs.Refusal.{Outcome, gives, refuses, answered}
+use Rattle.spach.specs.Refusal.{Outcome, gives, refuses}
+use Rattle.spach.specs.Answered.{answered}
 use Rattle.transfer.specs.State.{View, fresh, newOf, blankView}
-use Rattle.transfer.proofs.Kept.{new-call-kept}
+use Rattle.transfer.proofs.Invariant.{new-call-kept}
 use Rattle.sender.proofs.Slots.{whole-by}
 use Rattle.sender.proofs.Sender.try_new.Statement.{statement}
 use Rattle.sender.proofs.Sender.try_new.Tie as tie

@@ -36,13 +36,13 @@ has-requires : tie.Need-has-requires
 has-requires c κs = search needs
 
 -- whether its Begin went out
-begun : (c : tie.After-has) → c .has .result ≡ has (wentOut (c .before .before .before .before .before .before .find .result .transfer)) 0
-begun c = c .has .ensures ∙ ap (λ (q : ℕ). has q 0) (c .before .went-out .ensures)
+begin-out : (c : tie.After-has) → c .has .result ≡ has (wentOut (c .before .before .before .before .before .before .find .result .transfer)) 0
+begin-out c = c .has .ensures ∙ ap (λ (q : ℕ). has q 0) (c .before .went-out .ensures)
 
 returns-2 : tie.Need-returns-2
 returns-2 c =
     let b = c .before .before .before .before .before .before .before .before in
-    (b .pre .fitted, status-unbegun (viewOf (b .args .s)) (b .args .status) (c .before .before .before .before .before .before .before .find .ensures) (found (c .before .before .before)) (begun (c .before)) (c .if2 .taken))
+    (b .pre .fitted, status-unbegun (viewOf (b .args .s)) (b .args .status) (c .before .before .before .before .before .before .before .find .ensures) (found (c .before .before .before)) (begin-out (c .before)) (c .if2 .taken))
 
 observe-requires : tie.Need-observe-requires
 observe-requires c κs = tt
@@ -54,7 +54,7 @@ put-requires c κs =
 
 -- its Begin went out
 out : (c : tie.Else2) → has (wentOut (c .before .before .before .before .before .before .before .find .result .transfer)) 0 ≡ true
-out c = sym (begun (c .before)) ∙ not-false (c .before .has .result) (c .if2 .left)
+out c = sym (begin-out (c .before)) ∙ not-false (c .before .has .result) (c .if2 .left)
 
 -- the sender with the status observed is sound
 put-sound : (c : tie.After-put) → Sound (viewOf (c .put .result))
@@ -78,7 +78,7 @@ returns-3 c =
     let b = c .before .before .before .before .before .before .before .before .before .before .before in
     let past = walked-past (viewOf (c .before .put .result)) (put-sound (c .before)) in (
       c .walk .ensures .0,
-      status-found (viewOf (b .args .s)) (b .args .status) (c .before .before .before .before .before .before .before .before .before .before .find .ensures) (found (c .before .before .before .before .before .before)) (begun (c .before .before .before .before)) (c .before .before .before .if2 .left) (c .before .before .observe .result) (viewOf (c .walk .result)) (c .before .before .observe .ensures) (c .walk .ensures .1 ∙ (past ∙ ap walked (c .before .put .ensures .1))),
+      status-found (viewOf (b .args .s)) (b .args .status) (c .before .before .before .before .before .before .before .before .before .before .find .ensures) (found (c .before .before .before .before .before .before)) (begin-out (c .before .before .before .before)) (c .before .before .before .if2 .left) (c .before .before .observe .result) (viewOf (c .walk .result)) (c .before .before .observe .ensures) (c .walk .ensures .1 ∙ (past ∙ ap walked (c .before .put .ensures .1))),
     )
 
 pub shows-spec : {M : Type 1} → statement M

@@ -8,7 +8,8 @@ use borrow.Author.Tests.{not-true, not-false}
 use Rattle.transfer.specs.Advance.{walked}
 use Rattle.transfer.specs.Invariant.{Sound}
 use Rattle.transfer.specs.State.{putAt, ofGeneration}
-use Rattle.transfer.proofs.Calls.{put-confirmed-kept, outstanding-frame}
+use Rattle.transfer.proofs.Calls.{put-confirmed-kept}
+use Rattle.transfer.proofs.Moves.{outstanding-frame}
 use Rattle.sender.specs.Arrays.{viewOf}
 use Rattle.sender.proofs.Found.{found-low, found-there, found-frames, found-words}
 use Rattle.sender.proofs.Handed.{walked-past, confirm-unfound, confirm-lost, confirm-found}

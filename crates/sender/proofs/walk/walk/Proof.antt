@@ -6,7 +6,7 @@ use borrow.Author.Needs.{needs}
 use lib.ListN.{length}
 use Rattle.transfer.specs.Echo.{freeAnswer}
 use Rattle.transfer.specs.Advance.{walk}
-use Rattle.transfer.proofs.Around.{free-now}
+use Rattle.transfer.proofs.EchoSearch.{free-now}
 use Rattle.sender.specs.Arrays.{viewOf}
 use Rattle.sender.proofs.Slots.{unmapped}
 use Rattle.sender.proofs.Turns.{walkable, room-first, Turning, here, turn-stays, turn-ends, turn-fails, turn-begins, turned-all}

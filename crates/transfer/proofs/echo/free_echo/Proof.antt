@@ -5,7 +5,7 @@ use native.Mathlib.Omega.{arith}
 use borrow.Author.Needs.{needs}
 use Rattle.transfer.specs.Lists.{position}
 use Rattle.transfer.specs.Echo.{free, around}
-use Rattle.transfer.proofs.Around.{positionFrom, around-here, around-next, around-none}
+use Rattle.transfer.proofs.EchoSearch.{positionFrom, around-here, around-next, around-none}
 use Rattle.transfer.proofs.echo.free_echo.Statement.{statement}
 use Rattle.transfer.proofs.echo.free_echo.Tie as tie
 

@@ -1,4 +1,4 @@
-//! The last part of the fixed script: octets that all differ, so that none may take another's place; bits and fields that are
+//! A late part of the fixed script: octets that all differ, so that none may take another's place; bits and fields that are
 //! not read; two faults at once; each call of a timer and of a procedure in each state that it can be in.
 use super::{
     Script, begin, changed, continuing, cut,
@@ -20,7 +20,7 @@ use bts136::harness::{
 use std::collections::BTreeSet;
 
 /// A header and an identity of each type, no two of them alike in a field.
-const OWN: [([u8; HEADER_OCTETS], u8, u64); 4] = [
+pub const OWN: [([u8; HEADER_OCTETS], u8, u64); 4] = [
     ([3, 8, 0x55, 0, 1], 0, 0x9_abcd),
     ([4, 4, 0x2a, 1, 0], 1, 0x9a_bcde),
     ([3, 2, 0x01, 1, 1], 2, 0x2_3456_789a),
@@ -329,6 +329,6 @@ impl Script {
     }
 }
 /// No two of 256 in a row are alike, and neighbours differ in many bits.
-fn octet(index: usize) -> u8 {
+pub fn octet(index: usize) -> u8 {
     (167 * index + 19) as u8
 }

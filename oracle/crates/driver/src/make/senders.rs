@@ -63,6 +63,11 @@ pub fn fixed_script() -> Vec<u8> {
     script.same_number();
     script.around();
     script.later_frames();
+    script.large();
+    script.five_on_arch();
+    script.of_continues();
+    script.over_another();
+    script.many_wait();
     script.octets
 }
 
@@ -102,6 +107,11 @@ impl Script {
     }
     fn enqueued(&mut self, asked: Asked, block: u64, now_ms: u64) {
         self.lived(ENQUEUE, &[&asked.operands(), &clock_octets(block, now_ms)]);
+    }
+    /// An enqueue with a completion of its own.
+    fn completing(&mut self, asked: Asked, completion: u64, block: u64) {
+        let operands = asked.with_completion(completion);
+        self.lived(ENQUEUE, &[&operands, &clock_octets(block, 0)]);
     }
     fn echoed(&mut self, op: u8, echo: u8, block: u64, now_ms: u64) {
         self.lived(op, &[&[echo], &clock_octets(block, now_ms)]);
@@ -880,6 +890,193 @@ impl Script {
         self.made(2, 0, 0, LAST - 511);
         self.clocked(SENDER_ADVANCE, 5, 5);
     }
+    /// Capacities between the ends; a guard and blocks over 32 bits; a completion of 64, of each kind of event.
+    fn large(&mut self) {
+        for capacity in [2, 33, 64, 65, 100, 127] {
+            self.made(capacity, LAST - 1, 1 << 63, 11);
+            self.shown(0);
+        }
+        let first = 1 << 33;
+        self.made(65, 1 << 40 | 5, first, 100);
+        for block in [first - 1, first] {
+            self.push(CAN_ENQUEUE, &[&clock_octets(block, 0)]);
+            self.completing(to(1, TWO), LAST, block);
+        }
+        self.shown(1);
+        let sent = [(); 2].map(|()| self.sent(first));
+        for token in sent {
+            self.push(SUBMITTED_MESSAGE, &[&token_octets(token)]);
+            self.with_token(TRANSMITTED, token, first, 0);
+        }
+        self.push(PENDING, &[]);
+        self.clocked(SENDER_ADVANCE, first + 63, 0);
+        self.clocked(SENDER_ADVANCE, first + 64, 0);
+        self.shown(1);
+        self.push(SENDER_ECHOES, &[&[0]]);
+        // Replaced, cancelled by each call, expired.
+        self.completing(to(1, TWO), LAST - 1, first + 64);
+        self.lived(CANCEL, &[&identity_operand(0, 1)]);
+        self.completing(to(1, TWO), LAST - 2, first + 64);
+        let owner = self.live(0).owner;
+        self.lived(CANCEL_TRANSACTION, &[&owner.to_be_bytes()]);
+        self.completing(to(1, TWO), LAST - 3, first + 64);
+        self.lived(CANCEL_ALL, &[]);
+        let soon = Asked {
+            deadline_ms: 100,
+            ..to(1, ONE)
+        };
+        self.completing(soon, LAST - 4, first + 64);
+        self.completing(to(2, ONE), LAST - 5, first + 64);
+        self.clocked(SENDER_ADVANCE, first + 64, 100);
+        for place in 0..5 {
+            self.push(SENDER_EVENT, &[&pair(place)]);
+        }
+        self.popped(6);
+    }
+    /// Five frames on Arch: of each, the clock gone back and tokens with another number, when it is handed in and when it
+    /// is confirmed; the last is handed in again, and its former submission comes late.
+    fn five_on_arch(&mut self) {
+        self.made(2, 0, 0, 100);
+        self.enqueued(to(1, FIVE), 10, 1);
+        let sent = [11, 12, 13, 14, 15].map(|block| {
+            self.clocked(PREPARE, block, 1);
+            let own = self.selected();
+            self.with_token(SUBMITTED, own, block - 1, 1);
+            self.with_token(SUBMITTED, own, block, 0);
+            for token in forged(own) {
+                self.with_token(SUBMITTED, token, block, 1);
+            }
+            self.with_token(SUBMITTED, own, block, 1);
+            self.push(SUBMITTED_MESSAGE, &[&token_octets(own)]);
+            own
+        });
+        for frame in [3, 1, 4, 0, 2] {
+            let own = sent[frame];
+            for token in forged(own) {
+                self.with_token(TRANSMITTED, token, 16, 1);
+            }
+            self.with_token(TRANSMITTED, own, 16, 1);
+            self.with_token(TRANSMITTED, own, 16, 1);
+        }
+        self.shown(1);
+        self.push(PENDING, &[]);
+        self.lived(
+            SENDER_STATUS,
+            &[&[0], &7u32.to_be_bytes(), &clock_octets(17, 1)],
+        );
+        self.clocked(PREPARE, 17, 1);
+        let last = self.selected();
+        self.with_token(SUBMITTED, last, 17, 1);
+        self.with_token(TRANSMITTED, sent[4], 17, 1);
+        self.with_token(TRANSMITTED, last, 17, 1);
+        self.lived(
+            SENDER_STATUS,
+            &[&[0], &8u32.to_be_bytes(), &clock_octets(18, 1)],
+        );
+        self.popped(1);
+    }
+    /// A selected Continue stays while another order is refreshed, cancelled, restarted or complete; it goes when another
+    /// echo is put first, and when its own order is replaced, restarted, cancelled or expires.
+    fn of_continues(&mut self) {
+        self.made(4, 0, 0, 0);
+        self.enqueued(to(1, TWO), 10, 0);
+        self.enqueued(to(2, TWO), 10, 0);
+        let begin = self.sent(10);
+        self.sent(10);
+        self.clocked(PREPARE, 10, 0);
+        let dropped = self.selected();
+        self.echoed(PRIORITIZED, 0, 10, 0);
+        self.clocked(REFRESH, 26, 0);
+        self.shown(2);
+        self.lived(CANCEL, &[&identity_operand(0, 2)]);
+        self.clocked(PREPARE, 26, 0);
+        self.enqueued(to(2, TWO), 26, 0);
+        self.echoed(PRIORITIZED, 2, 26, 0);
+        self.with_token(SUBMITTED, dropped, 26, 0);
+        let other = self.selected();
+        self.with_token(SUBMITTED, other, 26, 0);
+        self.echoed(PRIORITIZED, 0, 26, 0);
+        let last = self.selected();
+        self.echoed(INTERRUPT, 2, 26, 0);
+        self.with_token(SUBMITTED, last, 27, 0);
+        self.sent(27);
+        self.clocked(PREPARE, 27, 0);
+        let kept = self.selected();
+        for token in [begin, Token { frame: 1, ..begin }, last, last] {
+            self.with_token(TRANSMITTED, token, 27, 0);
+        }
+        self.status(0, 1, 28);
+        self.clocked(PREPARE, 28, 0);
+        // Replaced, then restarted, cancelled and expired.
+        self.enqueued(to(2, TWO), 28, 0);
+        self.with_token(SUBMITTED, kept, 28, 0);
+        self.sent(28);
+        self.clocked(PREPARE, 28, 0);
+        let restarted = self.selected();
+        self.echoed(INTERRUPT, self.live(0).echo, 28, 0);
+        self.with_token(SUBMITTED, restarted, 28, 0);
+        self.sent(28);
+        self.clocked(PREPARE, 28, 0);
+        self.lived(CANCEL, &[&identity_operand(0, 2)]);
+        self.shown(0);
+        self.popped(5);
+        let soon = Asked {
+            deadline_ms: 100,
+            ..to(2, TWO)
+        };
+        self.enqueued(soon, 28, 0);
+        self.sent(28);
+        self.clocked(PREPARE, 28, 0);
+        self.clocked(SENDER_ADVANCE, 28, 100);
+        self.popped(2);
+    }
+    /// Messages over longer ones, in two places: what is past them stays.
+    fn over_another(&mut self) {
+        self.made(2, 0, 0, 0);
+        for who in [1, 2] {
+            self.enqueued(to(who, 255), 1, 0);
+        }
+        for length in [254, 100, 38, FIVE, 1] {
+            for who in [1, 2] {
+                let asked = Asked {
+                    channel: SMSCH,
+                    ..to(who, length)
+                };
+                self.enqueued(asked, 1, 0);
+                self.popped(1);
+            }
+        }
+        self.shown(2);
+    }
+    /// 20 orders wait and are counted; all of them are refreshed at once, and the last goes first unless a frame is
+    /// selected.
+    fn many_wait(&mut self) {
+        for selected in [false, true] {
+            self.made(32, 0, 0, 0);
+            let clock = clock_octets(1, 0);
+            for who in 1..=20 {
+                self.push(ENQUEUE, &[&to(who, ONE).operands(), &clock]);
+            }
+            for _ in 1..=20 {
+                self.push(PREPARE, &[&clock]);
+                let token = token_octets(self.selected());
+                self.push(SUBMITTED, &[&token, &clock]);
+                self.push(TRANSMITTED, &[&token, &clock]);
+            }
+            self.push(PENDING, &[]);
+            self.push(READY, &[]);
+            if selected {
+                self.enqueued(to(21, ONE), 1, 0);
+                self.clocked(PREPARE, 1, 0);
+            }
+            self.clocked(REFRESH, 16, 0);
+            self.clocked(REFRESH, 17, 0);
+            for place in [0, 1, 15, 16, 17, 19, 20] {
+                self.push(SENDER_TRANSFER, &[&[place]]);
+            }
+            self.clocked(PREPARE, 17, 0);
+        }
+    }
 }
 /// What is asked for; the completion is 7 and the value of the identity.
 #[derive(Clone, Copy)]
@@ -900,7 +1097,9 @@ fn to(value: u64, length: usize) -> Asked {
 }
 impl Asked {
     fn operands(self) -> Vec<u8> {
-        let completion = 7u64 << 32 | self.who.1;
+        self.with_completion(7 << 32 | self.who.1)
+    }
+    fn with_completion(self, completion: u64) -> Vec<u8> {
         let words = [completion, self.deadline_ms].map(u64::to_be_bytes);
         [
             &identity_operand(self.who.0, self.who.1)[..],

@@ -29,8 +29,10 @@ use Rattle.arq.specs.declared.ArqHeader.{ArqHeader}
 use Rattle.arq.specs.declared.ArqFrame.{ArqFrame}
 use Rattle.arq.specs.Frame.{modeOf, restOf, room, packed, aBegin, aContinue}
 use Rattle.arq.specs.Encode.{encodeOf}
-use Rattle.arq.specs.Decode.{headerAt, decodeBegin, decodeContinue, decodeKind, decodeOf}
+use Rattle.arq.specs.Decode.{decodeOf}
+use Rattle.arq.specs.Parts.{headerAt, decodeBegin, decodeContinue, decodeKind}
 use Rattle.arq.proofs.Round.{begin-encoded, continue-encoded}
+use Rattle.arq.proofs.Parts.{decode-parts}
 
 -- a response mode that was read
 pub mode-read : (n : ℕ) → n < 2 ^ 1 → modeOf (cond (not (eqb n 0)) Reservation Contention) ≡ n
@@ -47,7 +49,7 @@ restOf-given a r o u bs n e =
 
 -- a frame that was read of bits: it is encoded to them again, but for the bit after the identity type, which in a Begin
 -- was not set
-pub record Again (bs : List Bool) (f : ArqFrame) : Type 0 where
+pub record Reencoded (bs : List Bool) (f : ArqFrame) : Type 0 where
   pub encoded : encodeOf f ≡ gives (record { octets = octets 14 (put 12 1 0 bs) })
   pub begin-unset : f .kind ≡ Begin → field 12 1 bs ≡ 0
 
@@ -91,7 +93,7 @@ module _ (bs : List Bool) (size : length bs ≡ 112) (padding : field 109 3 bs �
     response-given = flag-read (field 13 1 bs) (field-lt 13 1 bs (omega arith))
 
     -- a Continue that was read is encoded again
-    continue-again : (f : ArqFrame) → field 7 3 bs ≡ 6 → decodeContinue a bs ≡ gives f → Again bs f
+    continue-again : (f : ArqFrame) → field 7 3 bs ≡ 6 → decodeContinue a bs ≡ gives f → Reencoded bs f
     continue-again f k e =
         let h : ArqHeader = headerAt a (isSet 13 bs) 14 bs in
         let x = passed (not (eqb (field 21 2 bs) 0)) 6 _ e in
@@ -120,7 +122,7 @@ module _ (bs : List Bool) (size : length bs ≡ 112) (padding : field 109 3 bs �
         rw (response-given, ew, ev, ey) (ap (λ (l : List (ℕ × ℕ)). (1, field 13 1 bs) ∷ (1, 0) ∷ (w, field 15 w bs) ∷ l) c)
 
     -- and so is a Begin
-    begin-again : (f : ArqFrame) (d : Address) → field 7 3 bs ≡ 5 → addressAt 10 bs ≡ gives d → decodeBegin a bs d ≡ gives f → Again bs f
+    begin-again : (f : ArqFrame) (d : Address) → field 7 3 bs ≡ 5 → addressAt 10 bs ≡ gives d → decodeBegin a bs d ≡ gives f → Reencoded bs f
     begin-again f d k g e =
         let t : ℕ = field 10 2 bs in
         let w : ℕ = widthOf t in
@@ -154,11 +156,11 @@ module _ (bs : List Bool) (size : length bs ≡ 112) (padding : field 109 3 bs �
         }
 
     -- and so both kinds
-    kind-again : (f : ArqFrame) → decodeKind a bs ≡ gives f → Again bs f
+    kind-again : (f : ArqFrame) → decodeKind a bs ≡ gives f → Reencoded bs f
     kind-again f e = go (eqb (field 7 3 bs) 5) (eqb (field 7 3 bs) 6) refl refl e
       where
         go : (x y : Bool) → eqb (field 7 3 bs) 5 ≡ x → eqb (field 7 3 bs) 6 ≡ y
-            → cond x (andThen (addressAt 10 bs) (decodeBegin a bs)) (cond y (decodeContinue a bs) (refuses 4)) ≡ gives f → Again bs f
+            → cond x (andThen (addressAt 10 bs) (decodeBegin a bs)) (cond y (decodeContinue a bs) (refuses 4)) ≡ gives f → Reencoded bs f
         go true y p q e =
             let g = then-gives (addressAt 10 bs) (decodeBegin a bs) e in
             begin-again f (g .0) (eqb-true (field 7 3 bs) 5 p) (g .1) (g .2)
@@ -166,11 +168,10 @@ module _ (bs : List Bool) (size : length bs ≡ 112) (padding : field 109 3 bs �
         go false false p q e = let z : _≡_ {A = ℕ} 0 1 = cc in absurd (omega arith)
 
 -- what decode accepts is 14 octets, and is encoded again
-pub decode-again : (xs : List ℕ) (f : ArqFrame) → decodeOf xs ≡ gives f → (length xs ≡ 14) × Again (bitsOf xs) f
-unfolding decodeOf
+pub decode-again : (xs : List ℕ) (f : ArqFrame) → decodeOf xs ≡ gives f → (length xs ≡ 14) × Reencoded (bitsOf xs) f
 decode-again xs f e =
     let bs : List Bool = bitsOf xs in
-    let x = passed (not (eqb (length xs) 14)) 1 _ e in
+    let x = passed (not (eqb (length xs) 14)) 1 _ (sym (decode-parts xs) ∙ e) in
     let y = passed (not (eqb (field 109 3 bs) 0)) 15 _ (x .1) in
     let g = then-gives (headerAAt 0 bs) _ (y .1) in
     let u = passed (eqb (usageOf (g .0 .channel)) 7) 3 _ (g .2) in

@@ -36,8 +36,10 @@ use Rattle.procedure.specs.declared.TimerEvent.the-variants.{None, SendS
 use Rattle.procedure.specs.declared.SendEvent.{SendEvent}
 use Rattle.procedure.specs.declared.SendEvent.the-variants as sends
 use Rattle.procedure.specs.declared.ArqProcedure.{ArqProcedure}
-use Rattle.procedure.specs.Procedure.{Out, withTimer, ended, admits, says, resetOf, accepted, byAnswer, decoded, letThrough, thenHears, receiveOf, unsolicited, follows, dueAt, advanceOf, reported, sentAt, statusSentOf}
-use Rattle.procedure.proofs.Kept.{let-through-gives, ignored-same, refused-same}
+use Rattle.procedure.specs.Procedure.{Out, withTimer, ended, admits, says, resetOf, receiveOf, unsolicited, follows, dueAt, advanceOf, afterSent, sentAt, statusSentOf}
+use Rattle.procedure.specs.Parts.{accepted, byAnswer, decoded, letThrough, thenHears}
+use Rattle.procedure.proofs.Invariant.{let-through-gives, ignored-same, refused-same}
+use Rattle.procedure.proofs.Parts.{receive-parts}
 
 by-bool : (x : Bool) → (x ≡ true) ⊎ (x ≡ false)
 by-bool true = inl refl
@@ -127,7 +129,7 @@ advance-ways P p b = admits-ways P p b dueAt
 -- foreign; refused; the end; or what the timer makes of it
 module _ (P : After SendEvent ArqProcedure → Type 0) (p : ArqProcedure) (b : ℕ) (x : StatusTransmission) where
   sent-at-ways : (r : StatusResult) (q : ArqProcedure) → ((e : SendEvent) → (e ≡ sends.Complete) ⊎ (e ≡ sends.Failed) → P (says e (ended q)))
-      → P (says sends.Pending (withTimer q (reported (x .kind) (q .inactivity)))) → P (sentAt x r q)
+      → P (says sends.Pending (withTimer q (afterSent (x .kind) (q .inactivity)))) → P (sentAt x r q)
   sent-at-ways results.Failed q ends goes = ends sends.Failed (inr refl)
   sent-at-ways results.Sent q ends goes = by (x .«complete_at_poll») refl
     where
@@ -137,7 +139,7 @@ module _ (P : After SendEvent ArqProcedure → Type 0) (p : ArqProcedure) (b : �
 
   pub sent-ways : (r : StatusResult) → (ownsOf (p .inactivity) (x .token) ≡ false → P (says sends.Ignored p)) → ((n : ℕ) → P (record { outcome = refuses n; state = p }))
       → ((q : ArqProcedure) → ownsOf (p .inactivity) (x .token) ≡ true → Clocked p b q → (e : SendEvent) → (e ≡ sends.Complete) ⊎ (e ≡ sends.Failed) → P (says e (ended q)))
-      → ((q : ArqProcedure) → ownsOf (p .inactivity) (x .token) ≡ true → Clocked p b q → P (says sends.Pending (withTimer q (reported (x .kind) (q .inactivity))))) → P (statusSentOf p b x r)
+      → ((q : ArqProcedure) → ownsOf (p .inactivity) (x .token) ≡ true → Clocked p b q → P (says sends.Pending (withTimer q (afterSent (x .kind) (q .inactivity))))) → P (statusSentOf p b x r)
   unfolding statusSentOf
   sent-ways r foreign stops ends goes = by (ownsOf (p .inactivity) (x .token)) refl
     where
@@ -181,16 +183,14 @@ module _ (P : Outcome ReceiveEvent → ArqProcedure → Type 0) (p : ArqProcedur
       → ((q : ArqProcedure) → Clocked p block q → (f : ArqFrame) → decodeOf xs ≡ gives f → (m : Delivery) (r : Request) (s : ArqReassembler) → s .transaction .held ≡ true
       → let a = accepted (byKind (f .kind) true false) m r (record { receiver = s; inactivity = q .inactivity }) in P (a .outcome) (a .state))
       → P (receiveOf p block xs b .outcome) (receiveOf p block xs b .procedure)
-  unfolding receiveOf
-  receive-passes e halts ignores accepts = subst (λ o. PO (thenHears p xs b o)) (sym e) (let-through halts ignores accepts e)
+  receive-passes e halts ignores accepts = subst PO (sym (receive-parts p block xs b)) (subst (λ o. PO (thenHears p xs b o)) (sym e) (let-through halts ignores accepts e))
 
   -- and where they do not
   pub receive-ways : ((n : ℕ) → P (refuses n) p) → ((q : ArqProcedure) (n : ℕ) → Clocked p block q → P (refuses n) q) → ((q : ArqProcedure) → Clocked p block q → P (gives receives.Ignored) q)
       → ((q : ArqProcedure) → Clocked p block q → (f : ArqFrame) → decodeOf xs ≡ gives f → (m : Delivery) (r : Request) (s : ArqReassembler) → s .transaction .held ≡ true
       → let a = accepted (byKind (f .kind) true false) m r (record { receiver = s; inactivity = q .inactivity }) in P (a .outcome) (a .state))
       → P (receiveOf p block xs b .outcome) (receiveOf p block xs b .procedure)
-  unfolding receiveOf
-  receive-ways stops halts ignores accepts = by (letThrough (p .inactivity) block (length b)) refl
+  receive-ways stops halts ignores accepts = subst PO (sym (receive-parts p block xs b)) (by (letThrough (p .inactivity) block (length b)) refl)
     where
       by : (o : Outcome ArqInactivity) → letThrough (p .inactivity) block (length b) ≡ o → PO (thenHears p xs b o)
       by (gives t) e = let-through halts ignores accepts e

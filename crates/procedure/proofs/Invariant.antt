@@ -35,15 +35,17 @@ use Rattle.inactivity.specs.declared.InactivityAction.the-variants as actions
 use Rattle.inactivity.specs.Inactivity as I
 use Rattle.inactivity.specs.Inactivity.{ownsOf, clocked, enough, ticked, admitted, due, dueOf, solicitedAt, unsolicitedAt, isIdle}
 use Rattle.inactivity.proofs.Calls.{ticked-gives, admitted-gives, enough-gives}
-use Rattle.inactivity.proofs.Kept as K
-use Rattle.inactivity.proofs.Kept.{onward-keeps, cond-keeps}
+use Rattle.inactivity.proofs.Invariant as K
+use Rattle.inactivity.proofs.Invariant.{onward-keeps, cond-keeps}
 use Rattle.procedure.specs.declared.StatusKind.{StatusKind}
 use Rattle.procedure.specs.declared.StatusKind.the-variants.{Solicited, Unsolicited}
 use Rattle.procedure.specs.declared.StatusTransmission.{StatusTransmission}
 use Rattle.procedure.specs.declared.TimerEvent.{TimerEvent}
 use Rattle.procedure.specs.declared.SendEvent.{SendEvent}
 use Rattle.procedure.specs.declared.ArqProcedure.{ArqProcedure}
-use Rattle.procedure.specs.Procedure.{Sound, newOf, withTimer, ended, admits, says, resetOf, activeOf, Out, begun, timed, endsUnpolled, accepted, byAnswer, pushes, decoded, letThrough, thenHears, receiveOf, follows, dueAt, advanceOf, reported, sentAt, statusSentOf}
+use Rattle.procedure.specs.Procedure.{Sound, newOf, withTimer, ended, admits, says, resetOf, activeOf, Out, receiveOf, follows, dueAt, advanceOf, afterSent, sentAt, statusSentOf}
+use Rattle.procedure.specs.Parts.{resetBy, timed, endsUnpolled, accepted, byAnswer, pushes, decoded, letThrough, thenHears}
+use Rattle.procedure.proofs.Parts.{receive-parts}
 
 true-false : {x : Bool} → x ≡ true → x ≡ false → ⊥
 true-false p q = let z : true ≡ false = sym p ∙ q in let w : _≡_ {A = ℕ} 0 1 = cc in absurd (omega arith)
@@ -139,7 +141,7 @@ unsolicited-armed t s = go (t .state) (t .«unsolicited_pending») refl (s .pend
     go SendingUnsolicited x e f h = rw e
     go (FinalWait since) x e f h = rw e
 
-sound-reported : (k : StatusKind) (p : ArqProcedure) → Sound p → Sound (withTimer p (reported k (p .inactivity)))
+sound-reported : (k : StatusKind) (p : ArqProcedure) → Sound p → Sound (withTimer p (afterSent k (p .inactivity)))
 sound-reported Solicited p h = sound-timer p _ (K.sound-solicited-at results.Sent (p .inactivity) (h .inactivity)) (solicited-armed (p .inactivity)) h
 sound-reported Unsolicited p h = sound-timer p _ (K.sound-unsolicited-at results.Sent (p .inactivity) (h .inactivity)) (unsolicited-armed (p .inactivity) (h .inactivity)) h
 
@@ -153,13 +155,13 @@ sound-status-sent p b x r h = cond-keeps {X = After SendEvent ArqProcedure} Soun
 
 -- ---- receive
 
-sound-begun : (begin : Bool) (t : ArqInactivity) → I.Sound t → I.Sound (begun begin t)
-sound-begun true t h = K.sound-renewed t
-sound-begun false t h = h
+sound-reset-by : (begin : Bool) (t : ArqInactivity) → I.Sound t → I.Sound (resetBy begin t)
+sound-reset-by true t h = K.sound-renewed t
+sound-reset-by false t h = h
 
 sound-timed : (begin complete : Bool) (t : ArqInactivity) → I.Sound t → I.Sound (timed begin complete t)
-sound-timed begin true t h = sound-begun begin t h
-sound-timed begin false t h = K.sound-waiting (begun begin t) (sound-begun begin t h)
+sound-timed begin true t h = sound-reset-by begin t h
+sound-timed begin false t h = K.sound-waiting (resetBy begin t) (sound-reset-by begin t h)
 
 sound-rests : (r : Request) (complete : Bool) (p : ArqProcedure) → Sound p → Sound (endsUnpolled r complete p)
 sound-rests requests.Nothing true p h = sound-ended p h
@@ -219,8 +221,7 @@ sound-goes p block xs b (gives t) e h =
 sound-goes p block xs b (refuses n) e h = h
 
 pub sound-receive : (p : ArqProcedure) (block : ℕ) (xs b : List ℕ) → Sound p → Sound (receiveOf p block xs b .procedure)
-unfolding receiveOf
-sound-receive p block xs b = sound-goes p block xs b _ refl
+sound-receive p block xs b h = subst (λ (o : Out). Sound (o .procedure)) (sym (receive-parts p block xs b)) (sound-goes p block xs b _ refl h)
 
 -- what equals a definition is as sound as the definition
 pub kept : {A : Type 0} {x y : After A ArqProcedure} → x ≡ y → Sound (y .state) → (x ≡ y) × Sound (x .state)

@@ -1,7 +1,7 @@
--- `procedure::status::reported` meets its contract. Assumes nothing.
+-- `procedure::status::after_sent` meets its contract. Assumes nothing.
 use borrow.Author.Needs.{needs}
-use Rattle.procedure.proofs.status.reported.Statement.{statement}
-use Rattle.procedure.proofs.status.reported.Tie as tie
+use Rattle.procedure.proofs.status.after_sent.Statement.{statement}
+use Rattle.procedure.proofs.status.after_sent.Tie as tie
 
 enum-told : tie.Need-enum-told
 enum-told c = search needs
@@ -21,5 +21,5 @@ returns c = rw (c .before .solicited-at .ensures, c .before .before .enum-told .
 returns-2 : tie.Need-returns-2
 returns-2 c = rw (c .before .unsolicited-at .ensures, c .before .before .enum-told2 .given .1)
 
-pub reported-spec : {M : Type 1} → statement M
-reported-spec = tie.close (tie.spec enum-told solicited-at-requires enum-told-2 unsolicited-at-requires returns returns-2)
+pub after-sent-spec : {M : Type 1} → statement M
+after-sent-spec = tie.close (tie.spec enum-told solicited-at-requires enum-told-2 unsolicited-at-requires returns returns-2)

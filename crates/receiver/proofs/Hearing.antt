@@ -4,7 +4,7 @@ use mathlib.Core.Logic.{_⊎_, inl, inr, ⊎-elim}
 use mathlib.Core.Bool.{true, false, not}
 use mathlib.Core.List.{List, [], _∷_, _++_, Memᴰ·append-left, Memᴰ·append-right, List·Memᴰ·append-cases, List·Memᴰ·eq-of-singleton}
 use mathlib.Core.List.List·Memᴰ.{List·Memᴰ·head}
-use Prim.Native.Nat.{ℕ, _+_, _*_, _^_, _≤_, _<_, min}
+use Prim.Native.Nat.{ℕ, _+_, _-_, _*_, _^_, _≤_, _<_, min}
 use native.Mathlib.Decide.{ℕ-discrete}
 use native.Mathlib.Omega.{arith}
 use lib.Dec.{eqb}
@@ -13,25 +13,25 @@ use lib.Pow.{pow-pos}
 use lib.ListN.{length, take, drop}
 use borrow.Author.Tests.{eq-eqb, ne-eqb, eqb-true, not-true}
 use Rattle.field.specs.Bits.{Octets, bitsOf}
-use Rattle.field.specs.Layout.{upTo}
+use Rattle.field.specs.Layout.{upTo, anySet}
 use Rattle.field.proofs.Laws.{length-octets}
 use Rattle.rach.specs.Identity.{typeOf}
 use Rattle.rach.specs.declared.MobileIdentity.{MobileIdentity}
 use Rattle.rach.proofs.Laws.{both}
 use Rattle.arq.specs.declared.ArqHeader.{ArqHeader}
 use Rattle.arq.specs.declared.ArqFrame.{ArqFrame}
-use Rattle.arq.specs.Frame.{room}
+use Rattle.arq.specs.Frame.{room, continueData}
 use Rattle.arq.specs.Cut.{continues}
 use Rattle.arq.proofs.Cuts.{count-least, count-most}
 use Rattle.receiver.specs.declared.Transaction.{Transaction}
 use Rattle.receiver.specs.declared.ArqReassembler.{ArqReassembler}
 use Rattle.receiver.specs.Map.{In, withBit}
-use Rattle.receiver.specs.Receiver.{Out, fresh, needed, slotAt, putSlot, begun, stored, marked, due, assembled, ignored, finish, pushFrame}
+use Rattle.receiver.specs.Receiver.{Out, fresh, needed, slotAt, putSlot, replacedBy, stored, marked, due, assembled, ignored, finish, firstBit, pushFrame}
 use Rattle.receiver.specs.Demand3.{BeginFor, CutFrom, Such, OfCut, HeardNo, Delivers, Silent, handed}
 use Rattle.receiver.proofs.Maps.{none-in, in-added, in-kept, in-either, added-lt, ones-all, all-ones, ones-none}
 use Rattle.receiver.proofs.Slots.{length-put, slot-same, slot-other}
 use Rattle.receiver.proofs.Heard.{Decoded, piece, begin-count, begin-first, continue-number, continue-octets}
-use Rattle.receiver.proofs.Ways.{by-bool, true-false, kinds-apart, Mine, Unheeded, fillerIn, own-way, frame-ways}
+use Rattle.receiver.proofs.PushCases.{by-bool, true-false, kinds-apart, Mine, Unheeded, fillerIn, filler-from, own-way, frame-ways}
 use Rattle.receiver.proofs.Pieces.{message-whole, piece-filler}
 
 -- ---- what is held
@@ -231,7 +231,9 @@ module _ {i : MobileIdentity} {m : List ℕ} {b : ArqFrame} {hs : List ArqFrame}
   none-past : fillerIn s f ≡ false
   none-past =
       let e : min (8 * length m) (room i) + 79 * f .«frame_number» ≡ room i + 79 * f .«frame_number» = omega (arith, count-least i (length m) (f .«frame_number») low) in
-      rw (v .core .opened .count, v .core .opened .identity, e, dat) (piece-filler i m (f .«frame_number»))
+      let none : anySet (drop (8 * s .transaction .«message_octets» - firstBit s (f .«frame_number»)) (continueData f)) ≡ false =
+      rw (v .core .opened .count, v .core .opened .identity, e, dat) (piece-filler i m (f .«frame_number»)) in
+      sym (filler-from s f) ∙ none
 
   slot-has : In (f .«frame_number») (s .«received_frames») → slotAt (s .slots) (f .«frame_number») ≡ f .«continue_data»
   slot-has j = v .core .slot (f .«frame_number») j ∙ sym dat
@@ -321,8 +323,8 @@ pub record Begun (i : MobileIdentity) (m : List ℕ) (b : ArqFrame) (buf : List 
   pub more : (wanted i m ≡ 0 → ⊥) → Silent buf o
 
 module _ {h : ArqHeader} {i : MobileIdentity} {m : List ℕ} {b : ArqFrame} (oc : Octets m) (d : Decoded b) (own : BeginFor i b) (cut : CutFrom h i m b) where
-  begun-core : Core i m b (b ∷ []) (begun (fresh i) b)
-  begun-core =
+  replaced-core : Core i m b (b ∷ []) (replacedBy (fresh i) b)
+  replaced-core =
       record {
         opened = record { held = refl; identity = refl; echo = refl; channel = refl; flags = refl; count = begin-count d cut; first = begin-first d (own .kind) (own .identity) cut };
         size = refl;
@@ -332,7 +334,7 @@ module _ {h : ArqHeader} {i : MobileIdentity} {m : List ℕ} {b : ArqFrame} (oc 
         slot = λ k j. absurd (none-in k j);
       }
 
-  begun-due : due (begun (fresh i) b) ≡ eqb 0 (wanted i m)
+  begun-due : due (replacedBy (fresh i) b) ≡ eqb 0 (wanted i m)
   begun-due = rw (begin-count d cut, ones-none)
 
   -- the invariant starts, and the push delivers exactly if no Continue is needed
@@ -345,5 +347,5 @@ module _ {h : ArqHeader} {i : MobileIdentity} {m : List ℕ} {b : ArqFrame} (oc 
         more = λ nz. ends .silent (begun-due ∙ ne-eqb 0 (wanted i m) (λ z. nz (sym z)));
       })
     where
-      ends : Finished i m b (b ∷ []) (fresh i) (begun (fresh i) b) buf (finish b (begun (fresh i) b) buf)
-      ends = finished b (fresh i) buf oc begun-core (λ e. absurd (true-false e refl))
+      ends : Finished i m b (b ∷ []) (fresh i) (replacedBy (fresh i) b) buf (finish b (replacedBy (fresh i) b) buf)
+      ends = finished b (fresh i) buf oc replaced-core (λ e. absurd (true-false e refl))

@@ -14,7 +14,8 @@ use Rattle.inactivity.specs.declared.State.{State}
 use Rattle.inactivity.specs.declared.State.the-variants.{Idle, Waiting, SendingUnsolicited, FinalWait}
 use Rattle.inactivity.specs.declared.ArqInactivity.{ArqInactivity}
 use Rattle.inactivity.proofs.Calls.{ticked-gives, admitted-gives}
-use Rattle.inactivity.specs.Inactivity.{Sound, turn, newOf, ownsOf, renewed, clocked, waiting, inState, enough, ticked, admitted, acts, done, resetOf, observeOf, receivedFrameOf, due, dueOf, elapsed, advanceOf, reported, unsolicitedBy, unsolicitedAt, solicitedBy, solicitedAt, resultAt, isIdle, sentFrom}
+use Rattle.inactivity.specs.Inactivity.{Sound, turn, newOf, ownsOf, renewed, clocked, waiting, inState, enough, ticked, admitted, acts, done, resetOf, observeOf, receivedFrameOf, due, dueOf, elapsed, advanceOf, reported, unsolicitedBy, unsolicitedAt, solicitedBy, solicitedAt, isIdle, sentFrom}
+use Rattle.inactivity.specs.Result.{resultAt}
 
 -- a law of what a call leaves holds if it holds of the state as it was and of all that the call goes on to
 pub onward-keeps : {A S : Type 0} (P : S → Type 0) (s : S) (o : Outcome S) (f : S → After A S) → P s → ((t : S) → o ≡ gives t → P (f t .state)) → P (onward s o f .state)

@@ -3,13 +3,16 @@ use mathlib.Core.Path.{_≡_, refl, ap, ap₂, _∙_}
 use mathlib.Core.Logic.{_⊎_, inl, inr, ⊎-elim}
 use mathlib.Core.Bool.{Bool, true, false, cond, not, _&&_}
 use mathlib.Core.List.{List, [], _∷_, _++_}
-use Prim.Native.Nat.{ℕ, _-_, _*_, _≤_, _<_}
+use Prim.Native.Nat.{ℕ, _+_, _-_, _*_, _≤_, _<_, min}
 use native.Mathlib.Omega.{arith}
 use lib.Dec.{eqb, ltb}
-use lib.ListN.{length, drop}
+use lib.ListN.{length, take, drop}
 use borrow.Author.Tests.{eq-eqb, eqb-true, lt-ltb, le-ltb, ltb-true, ltb-false, not-true}
+use Rattle.field.specs.Bits.{bitsOf}
 use Rattle.field.specs.Layout.{anySet}
 use Rattle.rach.specs.Identity.{typeOf, same}
+use Rattle.rach.specs.declared.MobileIdentity.{MobileIdentity}
+use Rattle.rach.specs.declared.MobileIdentity.the-variants.{Tmsi20, Tmsi24, Min34, Imsi50}
 use Rattle.rach.proofs.Laws.{same-self, same-equal, both}
 use Rattle.spach.specs.Refusal.{Outcome, gives, refuses}
 use Rattle.spach.specs.Header.{usageOf}
@@ -17,14 +20,14 @@ use Rattle.spach.proofs.Apart.{usages-apart}
 use Rattle.arq.specs.declared.FrameKind.{FrameKind}
 use Rattle.arq.specs.declared.FrameKind.the-variants.{Begin, Continue}
 use Rattle.arq.specs.declared.ArqFrame.{ArqFrame}
-use Rattle.arq.specs.Frame.{continueData}
+use Rattle.arq.specs.Frame.{room, continueData}
 use Rattle.arq.specs.Encode.{byKind}
 use Rattle.arq.specs.Decode.{decodeOf}
 use Rattle.receiver.specs.declared.ArqReassembler.{ArqReassembler}
 use Rattle.receiver.specs.declared.Delivery.the-variants as deliveries
 use Rattle.receiver.specs.declared.Reception.the-variants.{Accepted}
 use Rattle.receiver.specs.Map.{In, bitOf}
-use Rattle.receiver.specs.Receiver.{Out, needed, slotAt, begun, stored, marked, requestOf, due, assembled, refusal, ignored, finish, ours, startOf, sameOctets, pushContinue, pushFrame, pushDecoded, pushOf}
+use Rattle.receiver.specs.Receiver.{Out, needed, slotAt, replacedBy, stored, marked, requestOf, due, assembled, refusal, ignored, finish, ours, firstBit, sameOctets, pushContinue, pushFrame, pushDecoded, pushOf}
 use Rattle.receiver.specs.Demand3.{BeginFor}
 
 -- ---- tests
@@ -91,9 +94,30 @@ pub record Past (s : ArqReassembler) (f : ArqFrame) : Type 0 where
   pub mine : Mine s f
   pub high : needed s ≤ f .«frame_number»
 
--- some data bit past the message is set
+-- "75 − width bits: 55, 51, 41, 25" of data in the Begin, by the type of the identity
+abbrev pub roomFor : MobileIdentity → ℕ
+roomFor (Tmsi20 v) = 55
+roomFor (Tmsi24 v) = 51
+roomFor (Min34 v) = 41
+roomFor (Imsi50 v) = 25
+
+-- some of a Continue's 79 data bits past the message is set: before its data come those of the Begin and of the Continues below its number
 abbrev pub fillerIn : ArqReassembler → ArqFrame → Bool
-fillerIn s f = anySet (drop (8 * s .transaction .«message_octets» - startOf s (f .«frame_number»)) (continueData f))
+fillerIn s f =
+    let n = 8 * s .transaction .«message_octets» in
+    anySet (drop (n - (min n (roomFor (s .identity)) + 79 * f .«frame_number»)) (take 79 (bitsOf (f .«continue_data»))))
+
+-- that is where the definition seeks it
+pub room-for : (i : MobileIdentity) → room i ≡ roomFor i
+room-for (Tmsi20 v) = refl
+room-for (Tmsi24 v) = refl
+room-for (Min34 v) = refl
+room-for (Imsi50 v) = refl
+
+pub filler-from : (s : ArqReassembler) (f : ArqFrame) → anySet (drop (8 * s .transaction .«message_octets» - firstBit s (f .«frame_number»)) (continueData f)) ≡ fillerIn s f
+filler-from s f =
+    ap (λ (r : ℕ). anySet (drop (8 * s .transaction .«message_octets» - (min (8 * s .transaction .«message_octets») r + 79 * f .«frame_number»)) (continueData f)))
+    (room-for (s .identity))
 
 -- "filler past the message"
 pub record Filler (s : ArqReassembler) (f : ArqFrame) : Type 0 where
@@ -211,7 +235,7 @@ module _ (s : ArqReassembler) (f : ArqFrame) where
   -- ---- each way
   module _ (b : List ℕ) where
     -- a Begin for the identity
-    pub own-way : BeginFor (s .identity) f → pushFrame s b f ≡ finish f (begun s f) b
+    pub own-way : BeginFor (s .identity) f → pushFrame s b f ≡ finish f (replacedBy s f) b
     unfolding pushFrame
     own-way c =
         let e : same (f .identity) (s .identity) ≡ true = rw (c .identity) (same-self (s .identity)) in
@@ -235,7 +259,9 @@ module _ (s : ArqReassembler) (f : ArqFrame) where
 
     low-way : f .«frame_number» < needed s → pushContinue s b f ≡ cond (fillerIn s f) (refusal 7 s b) (cond clash (refusal 14 s b) (finish f (stored s f) b))
     unfolding pushContinue
-    low-way l = pick-false _ _ (ap not (lt-ltb (f .«frame_number») (needed s) l))
+    low-way l =
+        pick-false _ _ (ap not (lt-ltb (f .«frame_number») (needed s) l))
+        ∙ ap (λ (x : Bool). cond x (refusal 7 s b) (cond clash (refusal 14 s b) (finish f (stored s f) b))) (filler-from s f)
 
     -- 7
     pub filler-way : Filler s f → pushFrame s b f ≡ refusal 7 s b
@@ -250,7 +276,7 @@ module _ (s : ArqReassembler) (f : ArqFrame) where
     taken-way c = mine-way (c .mine) ∙ low-way (c .low) ∙ pick-false _ _ (c .clear) ∙ pick-false _ _ (taken-clash c)
 
     -- what holds on each way holds of every frame's push
-    pub frame-ways : (P : Out → Type 0) → (BeginFor (s .identity) f → P (finish f (begun s f) b)) → (Unheeded s f → P (ignored s b))
+    pub frame-ways : (P : Out → Type 0) → (BeginFor (s .identity) f → P (finish f (replacedBy s f) b)) → (Unheeded s f → P (ignored s b))
         → (Past s f → P (refusal 12 s b)) → (Filler s f → P (refusal 7 s b)) → (Conflict s f → P (refusal 14 s b)) → (Taken s f → P (finish f (stored s f) b))
         → P (pushFrame s b f)
     frame-ways P o u p r c t = go fate

@@ -14,8 +14,7 @@ use lib.Seq.{set-split}
 use borrow.Author.Tests.{eqb-true, eq-eqb, ne-eqb}
 use Rattle.receiver.specs.Map.{bitOf}
 use Rattle.receiver.proofs.Maps.{all-ones}
-use Rattle.receiver.proofs.Ways.{by-bool}
-use Rattle.transfer.specs.declared.Event.the-variants.{Complete, Expired}
+use Rattle.receiver.proofs.PushCases.{by-bool}
 use Rattle.transfer.specs.declared.Fate.{Fate}
 use Rattle.transfer.specs.declared.Fate.the-variants.{Ends, Restarts, Stays}
 use Rattle.transfer.specs.declared.Parcel.{Parcel}
@@ -36,7 +35,7 @@ use Rattle.transfer.proofs.Frames.{bit-continue, count-continues}
 use Rattle.transfer.proofs.Listed.{all-map, all-head, all-tail, all-at, all-removed, all-back}
 use Rattle.transfer.proofs.Settled.{settle-busy, settle-done, settle-waits}
 use Rattle.transfer.proofs.Alive.{frames-live, idle-empty, settled-parcel}
-use Rattle.transfer.proofs.Walked.{step-near, walked-near}
+use Rattle.transfer.proofs.Walked.{fate-cases, step-near, walked-near}
 
 -- ---- a transfer's fate
 
@@ -165,7 +164,7 @@ pub record Rests (c : Clock) (x : Transfer) : Type 0 where
   pub not-due : restartDue (c .«last_block») x ≡ false
 
 -- its fate is to stay so
-rests-stays : (c : Clock) (x : Transfer) → Rests c x → fateOf c false x ≡ Stays x
+pub rests-stays : (c : Clock) (x : Transfer) → Rests c x → fateOf c false x ≡ Stays x
 unfolding fateOf
 rests-stays c x h = rw (h .in-time, h .not-done, h .settled, h .not-due)
 
@@ -220,22 +219,14 @@ Agrees x = SetsAgree x × (1 ≤ x .parcel .frames)
 
 -- whatever goes on after a step rests
 step-rests : (u : View) (x : Transfer) → Agrees x → All (Rests (u .clock)) (u .transfers) → All (Rests (u .clock)) (step u (false, x) .transfers)
-unfolding step fateOf
-step-rests u x s h = go (overdue (u .clock) x) (doneOf x) (restartDue b (settleOf b x)) refl refl refl
+unfolding step
+step-rests u x s h =
+    fate-cases (λ f. All (Rests (u .clock)) (landed u x f .transfers)) (u .clock) false x h (λ o. h) (λ o. again o (freeEcho (u .echoes) (u .clock .«last_ms»)))
+    (λ o d r. all-back (u .transfers) (settleOf (u .clock .«last_block») x) (rests-settled (u .clock) x (s .0) (s .1) o d r) h)
   where
-    b : ℕ
-    b = u .clock .«last_block»
-
     again : overdue (u .clock) x ≡ false → (o : Option ℕ) → All (Rests (u .clock)) (restart u x o .transfers)
     again q none = h
     again q (some echo) = all-back (u .transfers) (begun (x .parcel) echo (u .«next_token»)) (rests-begun (u .clock) x echo (u .«next_token») (s .1) q) h
-
-    go : (o d r : Bool) → overdue (u .clock) x ≡ o → doneOf x ≡ d → restartDue b (settleOf b x) ≡ r
-        → All (Rests (u .clock)) (landed u x (cond o (Ends (Expired (x .parcel .completion))) (cond d (Ends (Complete (x .parcel .completion))) (cond r Restarts (Stays (settleOf b x))))) .transfers)
-    go true d r p q t = h
-    go false true r p q t = h
-    go false false true p q t = again p (freeEcho (u .echoes) (u .clock .«last_ms»))
-    go false false false p q t = all-back (u .transfers) (settleOf b x) (rests-settled (u .clock) x (s .0) (s .1) p q t) h
 
 -- after all steps
 steps-rest : (l : List Transfer) (u : View) → All Agrees l → All (Rests (u .clock)) (u .transfers) → All (Rests (u .clock)) (foldl step u (unasked l) .transfers)

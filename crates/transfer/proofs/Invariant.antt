@@ -1,56 +1,51 @@
--- What each change of a sender keeps of `Sound`, and then each call. Assumes nothing.
+-- What each change of a sender keeps of `Sound`. Assumes nothing.
 use mathlib.Core.Path.{_≡_, refl, sym, ap, subst, _∙_}
 use mathlib.Core.Logic.{_≢_, _⊎_, ⊎-elim}
 use mathlib.Core.Bool.{Bool, true, false, cond, not, _&&_, _||_, true≢false}
-use mathlib.Core.List.{List, [], _∷_, _++_, map, append-nil}
-use mathlib.Core.Option.{Option, none, some}
+use mathlib.Core.List.{List, [], _∷_, _++_, map}
+use mathlib.Core.Option.{Option, none, some, Option·none-ne-some}
 use Prim.Native.Nat.{ℕ, zero, suc, _+_, _*_, _^_, _-_, _≤_, _<_}
 use lib.Bits.{and-zero-r}
 use lib.Pow.{pow-pos, pow-mono}
 use native.Mathlib.Omega.{arith}
 use lib.Dec.{eqb, leb, ltb}
-use lib.ListN.{length, take, drop, getD, length-set, length-append, length-map}
-use lib.Seq.{set-split}
+use lib.ListN.{length, take, drop, getD, length-set}
+use lib.Seq.{split-at}
 use borrow.Author.Tests.{eqb-true, eqb-false, eq-eqb, ne-eqb, leb-false, lt-leb, ltb-true, ltb-false, not-false}
 use Rattle.token.specs.Token.{stop, numberAfter, fewerThan}
 use Rattle.rach.specs.Identity.{typeOf, valueOf, same, encodable}
 use Rattle.rach.specs.declared.MobileIdentity.{MobileIdentity}
 use Rattle.rach.proofs.Laws.{both, same-equal}
 use Rattle.spach.specs.Header.{usageOf}
-use Rattle.spach.specs.Refusal.{Outcome, gives, refuses, refuse, After, onward}
+use Rattle.spach.specs.Refusal.{Outcome, gives, refuses, After, onward}
 use Rattle.spach.proofs.Outcomes.{passed, then-gives}
 use Rattle.arq.specs.declared.ArqHeader.{ArqHeader}
 use Rattle.arq.specs.Cut.{continues, countOf}
-use Rattle.receiver.proofs.Ways.{by-bool}
+use Rattle.receiver.proofs.PushCases.{by-bool}
 use Rattle.receiver.specs.declared.ArqStatus.{ArqStatus}
-use Rattle.transfer.specs.declared.TransferToken.{TransferToken}
-use Rattle.transfer.specs.declared.Confirmation.{Confirmation}
-use Rattle.transfer.specs.declared.Confirmation.the-variants.{NotFound}
 use Rattle.transfer.specs.declared.FrameToken.{FrameToken}
 use Rattle.transfer.specs.declared.Request.{Request}
 use Rattle.transfer.specs.declared.Parcel.{Parcel}
 use Rattle.transfer.specs.declared.Event.{Event}
-use Rattle.transfer.specs.declared.Event.the-variants.{Cancelled}
 use Rattle.transfer.specs.declared.Since.{Since}
 use Rattle.transfer.specs.declared.Since.the-variants.{Never, Block}
 use Rattle.transfer.specs.declared.Transfer.{Transfer}
 use Rattle.transfer.specs.declared.PreparedFrame.{PreparedFrame}
 use Rattle.transfer.specs.Lists.{position, any, removeAt, pushBack}
-use Rattle.transfer.specs.State.{Limits, Echoes, Clock, View, Lent, Out, fresh, newOf, short, ticked, admitted, says, refusal, goesOn, seek, ofEcho, ofGeneration, withClock, withTransfers, withEvents, withEchoes, withSelected, tokenTaken, blankTransfer, putAt, unselect, ended, cancelAt}
+use Rattle.transfer.specs.State.{Limits, Echoes, Clock, View, Lent, Out, fresh, newOf, short, ticked, admitted, says, refusal, seek, ofEcho, ofGeneration, withClock, withTransfers, withEvents, withEchoes, withSelected, tokenTaken, blankTransfer, putAt, unselect, ended, cancelAt, cancels, eventOf}
 use Rattle.transfer.specs.Echo.{freeEcho, heldUntil, hold}
 use Rattle.transfer.specs.Queue.{firstFrames, front, has}
-use Rattle.transfer.specs.Transfer.{headerOf, begun, wentOut}
+use Rattle.transfer.specs.Transfer.{headerOf, begun, wentOut, settleOf}
 use Rattle.transfer.specs.Advance.{overdue, kept, walked}
-use Rattle.transfer.specs.Enqueue.{addressed, Grant, granted, allocated, grantOf, lowestFrom, lowestN, parcelOf, accepts, enqueueOf}
+use Rattle.transfer.specs.Enqueue.{addressed, Grant, granted, allocated, grantOf, lowestFrom, lowestN, parcelOf}
 use Rattle.transfer.specs.Prepare.{isReady, choose, repeated, onlyEcho, prioritized, prioritizeAt}
-use Rattle.transfer.specs.Submitted.{isSelected, inFlight, handedIn, submittedAt, submittedOf, isOutstanding, confirmFrame, confirms, transmittedAt}
+use Rattle.transfer.specs.Submitted.{isSelected, inFlight, handedIn, submittedAt, isOutstanding, confirmFrame, confirms, transmittedAt}
+use Rattle.transfer.specs.Refresh.{refreshed}
 use Rattle.transfer.specs.Status.{observes, statusAt}
-use Rattle.transfer.specs.Cancel.{cancelFirst, cancelOf, ownedBy, cancelTransactionOf, cancelAllOf}
-use Rattle.transfer.specs.Queries.{popFrom, popEventOf}
-use Rattle.transfer.specs.Invariant.{All, all-none, Some, Pairs, pairs-none, ByBlock, Accepted, SetsAgree, Live, Different, Chosen, Selected, Sound}
-use Rattle.transfer.proofs.Listed.{all-map, all-both, all-in, all-at, all-removed, all-back, some-map, some-all, some-in, some-one, some-removed, some-left, pairs-map, pairs-in, pairs-at, pairs-removed, pairs-back, length-in, length-removed, length-back, any-false, any-true, position-none, position-found, pigeon}
-use Rattle.transfer.proofs.Alive.{in-flight-live}
-use Rattle.transfer.proofs.Around.{free-now, held-after, held-other}
+use Rattle.transfer.specs.Invariant.{All, Some, Pairs, ByBlock, Accepted, SetsAgree, Live, Different, Chosen, Selected, Sound}
+use Rattle.transfer.proofs.Listed.{all-map, all-both, all-in, all-back, some-map, some-all, some-in, some-one, some-left, pairs-map, pairs-in, pairs-at, pairs-back, length-in, length-removed, length-back, any-false, any-true, position-none, position-found, pigeon, some-out, all-rest, all-one, pairs-rest, pairs-one}
+use Rattle.transfer.proofs.Alive.{in-flight-live, SameParcel, settled-parcel, repeated-parcel, refreshed-parcel, settled-live, repeated-live, refreshed-live, confirmed-live, observed-live, settled-chosen, repeated-chosen, refreshed-chosen, confirmed-chosen, observed-chosen}
+use Rattle.transfer.proofs.EchoSearch.{free-now, held-after, held-other}
 use Rattle.transfer.proofs.Fresh.{fresh-sound}
 
 -- ---- two transfers
@@ -150,88 +145,106 @@ selected-kept v s sel h = listed-kept v (v .transfers) (v .events) s (h .live) (
 
 -- ---- one transfer is taken out
 
+-- both ways of a test
+pub cond-cases : {X : Type 0} (P : X → Type 0) (t : Bool) (x y : X) → (t ≡ true → P x) → (t ≡ false → P y) → P (cond t x y)
+cond-cases P true x y a b = a refl
+cond-cases P false x y a b = b refl
+
 -- a selected frame that is not of this generation is another's
-selected-removed : (l : List Transfer) (place next : ℕ) (x : Transfer) (s : Option PreparedFrame) → ((f : PreparedFrame) → Some (Chosen f) l → Chosen f x ⊎ Some (Chosen f) (removeAt place l)) → Selected l next s → Selected (removeAt place l) next (unselect (x .generation) s)
-selected-removed l place next x none out h = tt
-selected-removed l place next x (some f) out h = go (eqb (f .token .generation .0) (x .generation .0)) refl
-  where
-    go : (b : Bool) → eqb (f .token .generation .0) (x .generation .0) ≡ b → Selected (removeAt place l) next (cond b none (some f))
-    go true e = tt
-    go false e = (⊎-elim (λ (c : Chosen f x). absurd (eqb-false _ _ e (c .generation))) (λ k. k) (out f (h .0)), h .1)
+selected-out : (a : List Transfer) (x : Transfer) (b : List Transfer) (next : ℕ) (s : Option PreparedFrame) → Selected (a ++ x ∷ b) next s → Selected (a ++ b) next (unselect (x .generation) s)
+selected-out a x b next none h = tt
+selected-out a x b next (some f) h =
+    cond-cases {X = Option PreparedFrame} (Selected (a ++ b) next) (eqb (f .token .generation .0) (x .generation .0)) none (some f) (λ e. tt)
+    (λ e. (⊎-elim (λ (c : Chosen f x). absurd (eqb-false _ _ e (c .generation))) (λ k. k) (some-out a x b (h .0)), h .1))
 
 -- a transfer ends with an event
-pub removed-kept : (v : View) (place : ℕ) (e : Event) → place < length (v .transfers) → Sound v → Sound (ended (withTransfers v (removeAt place (v .transfers))) (getD (v .transfers) place blankTransfer) e)
-removed-kept v place e lt h =
-    let l = v .transfers in
-    let n : length l ≡ suc (length (removeAt place l)) = length-removed l place blankTransfer lt in
+pub ended-kept : (v : View) (a : List Transfer) (x : Transfer) (b : List Transfer) (e : Event) → Sound (withTransfers v (a ++ x ∷ b)) → Sound (withTransfers (ended v x e) (a ++ b))
+ended-kept v a x b e h =
+    let n : length (a ++ x ∷ b) ≡ suc (length (a ++ b)) = length-in a x b in
     let m : length (pushBack (v .events) e) ≡ suc (length (v .events)) = length-back (v .events) e in
-    let a = h .live in
-    let b = h .accounted in
-    listed-kept v (removeAt place l) (pushBack (v .events) e) (unselect (getD l place blankTransfer .generation) (v .selected)) (omega arith) (omega arith)
-    (all-removed l place blankTransfer lt (h .transfers)) (pairs-removed l place blankTransfer lt (h .different))
-    (selected-removed l place (v .«next_token») (getD l place blankTransfer) (v .selected) (λ f. some-removed l place blankTransfer lt) (h .selected)) h
+    let i = h .live in
+    let j = h .accounted in
+    listed-kept (withTransfers v (a ++ x ∷ b)) (a ++ b) (pushBack (v .events) e) (unselect (x .generation) (v .selected)) (omega arith) (omega arith)
+    (all-rest a x b (h .transfers)) (pairs-rest a x b (h .different)) (selected-out a x b (v .«next_token») (v .selected) (h .selected)) h
 
--- a transfer is taken out, and Cancelled
+-- the transfer at a place is taken out, and Cancelled
 pub cancel-kept : (v : View) (place : ℕ) → place < length (v .transfers) → Sound v → Sound (cancelAt v place (getD (v .transfers) place blankTransfer))
-cancel-kept v place lt h = removed-kept v place _ lt h
+cancel-kept v place lt h =
+    let l = v .transfers in
+    let x = getD l place blankTransfer in
+    ended-kept v (take place l) x (drop (suc place) l) (eventOf x cancels) (subst (λ t. Sound (withTransfers v t)) (split-at l place blankTransfer lt) h)
 
 -- ---- one transfer changes, or moves
 
-module _ (v : View) (place : ℕ) (y : Transfer) (a b : List Transfer) where
-  abbrev there : Transfer
-  there = getD (v .transfers) place blankTransfer
+-- a transfer may stand for another of the same parcel, generation and echo: it is live if that is, and what is selected of that is a
+-- frame of it
+pub record Keeps (v : View) (y x : Transfer) : Type 0 where
+  pub same : SameParcel y x
+  pub live : Live (v .limits) (v .clock) (v .echoes) (v .«next_token») x → Live (v .limits) (v .clock) (v .echoes) (v .«next_token») y
+  pub chosen : (f : PreparedFrame) → v .selected ≡ some f → Chosen f x → Chosen f y
 
-  -- of the transfer at a place there stands y among the others, in their order, and s is selected
-  pub placed-kept : (s : Option PreparedFrame) → place < length (v .transfers) → a ++ b ≡ removeAt place (v .transfers)
-      → y .parcel ≡ there .parcel → y .generation ≡ there .generation → y .echo ≡ there .echo → Live (v .limits) (v .clock) (v .echoes) (v .«next_token») y
-      → Selected (a ++ y ∷ b) (v .«next_token») s → Sound v → Sound (withSelected (withTransfers v (a ++ y ∷ b)) s)
-  placed-kept s lt e p g k live sel h =
-      let l = v .transfers in
-      let n : length l ≡ suc (length (removeAt place l)) = length-removed l place blankTransfer lt in
-      let m : length (a ++ y ∷ b) ≡ suc (length (a ++ b)) = length-in a y b in
-      let o : length (a ++ b) ≡ length (removeAt place l) = ap length e in
-      let i = h .live in
-      let j = h .accounted in
-      listed-kept v (a ++ y ∷ b) (v .events) s (omega arith) (omega arith)
-      (all-in a y b live (subst (All (Live (v .limits) (v .clock) (v .echoes) (v .«next_token»))) (sym e) (all-removed l place blankTransfer lt (h .transfers))))
-      (pairs-in (different-sym (v .clock)) a y b
-      (subst (All (Different (v .clock) y)) (sym e) (all-map (λ z. different-same (v .clock) there y z p g k) (pairs-at l place blankTransfer lt (different-sym (v .clock)) (h .different))))
-      (subst (Pairs (Different (v .clock))) (sym e) (pairs-removed l place blankTransfer lt (h .different))))
-      sel h
+-- whichever the others are
+pub keeps-among : {v : View} {y x : Transfer} (l : List Transfer) → Keeps v y x → Keeps (withTransfers v l) y x
+keeps-among l k = record { same = k .same; live = k .live; chosen = k .chosen }
 
-  selected-placed : (s : Option PreparedFrame) → place < length (v .transfers) → a ++ b ≡ removeAt place (v .transfers) → ((f : PreparedFrame) → Chosen f there → Chosen f y)
-      → Selected (v .transfers) (v .«next_token») s → Selected (a ++ y ∷ b) (v .«next_token») s
-  selected-placed none lt e c h = tt
-  selected-placed (some f) lt e c h =
-      (⊎-elim (λ (q : Chosen f there). some-one a y b (c f q)) (λ q. some-in a y b (subst (Some (Chosen f)) (sym e) q)) (some-removed (v .transfers) place blankTransfer lt (h .0)), h .1)
+-- of the transfer x there stands y, among the others, in their order
+pub placed-kept : (v : View) (a b c d : List Transfer) (x y : Transfer) → c ++ d ≡ a ++ b → Keeps v y x → Sound (withTransfers v (a ++ x ∷ b)) → Sound (withTransfers v (c ++ y ∷ d))
+placed-kept v a b c d x y e k h =
+    let n : length (a ++ x ∷ b) ≡ suc (length (a ++ b)) = length-in a x b in
+    let m : length (c ++ y ∷ d) ≡ suc (length (c ++ d)) = length-in c y d in
+    let o : length (c ++ d) ≡ length (a ++ b) = ap length e in
+    let i = h .live in
+    let j = h .accounted in
+    let s = k .same in
+    listed-kept (withTransfers v (a ++ x ∷ b)) (c ++ y ∷ d) (v .events) (v .selected) (omega arith) (omega arith)
+    (all-in c y d (k .live (all-one a x b (h .transfers))) (subst (All (Live (v .limits) (v .clock) (v .echoes) (v .«next_token»))) (sym e) (all-rest a x b (h .transfers))))
+    (pairs-in (different-sym (v .clock)) c y d
+    (subst (All (Different (v .clock) y)) (sym e) (all-map (λ z. different-same (v .clock) x y z (s .0) (s .1) (s .2)) (pairs-one (different-sym (v .clock)) a x b (h .different))))
+    (subst (Pairs (Different (v .clock))) (sym e) (pairs-rest a x b (h .different))))
+    (selected (v .selected) refl (h .selected)) h
+  where
+    selected : (s : Option PreparedFrame) → v .selected ≡ s → Selected (a ++ x ∷ b) (v .«next_token») s → Selected (c ++ y ∷ d) (v .«next_token») s
+    selected none q t = tt
+    selected (some f) q t = (⊎-elim (λ (r : Chosen f x). some-one c y d (k .chosen f q r)) (λ r. some-in c y d (subst (Some (Chosen f)) (sym e) r)) (some-out a x b (t .0)), t .1)
 
-  -- the same where a frame that was chosen of it is chosen of y, and stays selected
-  pub moved-kept : place < length (v .transfers) → a ++ b ≡ removeAt place (v .transfers)
-      → y .parcel ≡ there .parcel → y .generation ≡ there .generation → y .echo ≡ there .echo → Live (v .limits) (v .clock) (v .echoes) (v .«next_token») y
-      → ((f : PreparedFrame) → Chosen f there → Chosen f y) → Sound v → Sound (withTransfers v (a ++ y ∷ b))
-  moved-kept lt e p g k live c h = placed-kept (v .selected) lt e p g k live (selected-placed (v .selected) lt e c (h .selected)) h
+module _ (v : View) (x : Transfer) where
+  -- at the clock's block
+  abbrev block : ℕ
+  block = v .clock .«last_block»
 
-module _ (v : View) (place : ℕ) (y : Transfer) (lt : place < length (v .transfers)) (p : y .parcel ≡ getD (v .transfers) place blankTransfer .parcel) (g : y .generation ≡ getD (v .transfers) place blankTransfer .generation)
-    (k : y .echo ≡ getD (v .transfers) place blankTransfer .echo) (live : Live (v .limits) (v .clock) (v .echoes) (v .«next_token») y) where
-  -- the transfer at a place is another of the same parcel, generation and echo, whose frame may be selected
-  pub changed-kept : ((f : PreparedFrame) → Chosen f (getD (v .transfers) place blankTransfer) → Chosen f y) → Sound v → Sound (putAt v place y)
-  changed-kept c h = subst (λ l. Sound (withTransfers v l)) (sym (set-split (v .transfers) place y lt)) (moved-kept v place y (take place (v .transfers)) (drop (suc place) (v .transfers)) lt refl p g k live c h)
+  -- as it is
+  pub self-keeps : Keeps v x x
+  self-keeps = record { same = (refl, refl, refl); live = λ h. h; chosen = λ f e c. c }
 
-  -- it goes to the front
-  pub changed-front : ((f : PreparedFrame) → Chosen f (getD (v .transfers) place blankTransfer) → Chosen f y) → Sound v → Sound (withTransfers v (y ∷ removeAt place (v .transfers)))
-  changed-front c h = moved-kept v place y [] (removeAt place (v .transfers)) lt refl p g k live c h
+  -- settled
+  pub settled-keeps : Keeps v (settleOf block x) x
+  settled-keeps = record { same = settled-parcel block x; live = λ h. settled-live x h; chosen = λ f e c. settled-chosen x c block }
 
-  -- there, with any selection that is right
-  pub changed-front-selecting : (s : Option PreparedFrame) → Selected (y ∷ removeAt place (v .transfers)) (v .«next_token») s → Sound v → Sound (withSelected (withTransfers v (y ∷ removeAt place (v .transfers))) s)
-  changed-front-selecting s sel h = placed-kept v place y [] (removeAt place (v .transfers)) s lt refl p g k live sel h
+  -- its last frame queued again, for `prepare_prioritized`
+  pub repeated-keeps : Keeps v (repeated x) x
+  repeated-keeps = record { same = repeated-parcel x; live = λ h. repeated-live x h; chosen = λ f e c. repeated-chosen x c }
 
-  -- it goes to the back, and none is selected
-  pub changed-back-unselected : Sound v → Sound (withSelected (withTransfers v (pushBack (removeAt place (v .transfers)) y)) none)
-  changed-back-unselected h = placed-kept v place y (removeAt place (v .transfers)) [] none lt (append-nil _) p g k live tt h
+  -- and for `refresh_waiting`
+  pub refreshed-keeps : Keeps v (refreshed block x) x
+  refreshed-keeps = record { same = refreshed-parcel block x; live = λ h. refreshed-live x h block; chosen = λ f e c. refreshed-chosen x c block }
 
--- a transfer goes to the front
-pub front-kept : (v : View) (place : ℕ) → place < length (v .transfers) → Sound v → Sound (withTransfers v (getD (v .transfers) place blankTransfer ∷ removeAt place (v .transfers)))
-front-kept v place lt h = changed-front v place (getD (v .transfers) place blankTransfer) lt refl refl refl (all-at (v .transfers) place blankTransfer lt (h .transfers)) (λ f c. c) h
+  -- a frame in flight confirmed
+  pub confirmed-keeps : (frame : ℕ) → frame < x .parcel .frames → Keeps v (confirmFrame frame x) x
+  confirmed-keeps frame low = record { same = (refl, refl, refl); live = λ h. confirmed-live x h frame low; chosen = λ f e c. confirmed-chosen x c frame }
+
+  -- a map observed, once the Begin went out
+  pub observed-keeps : (map : ℕ) → has (wentOut x) 0 ≡ true → Keeps v (observes map block x) x
+  observed-keeps map begun = record { same = (refl, refl, refl); live = λ h. observed-live x h map begun; chosen = λ f e c. observed-chosen x c map block }
+
+  -- its front in flight, with none selected
+  pub in-flight-keeps : (frame : ℕ) → v .selected ≡ none → (isReady x && eqb (front (x .sets .queue)) frame) ≡ true → Keeps v (inFlight frame block x) x
+  in-flight-keeps frame n e =
+      let q = both (isReady x) (eqb (front (x .sets .queue)) frame) e in
+      record {
+        same = (refl, refl, refl);
+        live = λ h. in-flight-live x h frame (q .0) (sym (eqb-true (front (x .sets .queue)) frame (q .1)));
+        chosen = λ f s c. absurd (Option·none-ne-some f (sym n ∙ s));
+      }
 
 -- ---- an echo is held
 
@@ -395,12 +408,7 @@ pub added-kept : (w : View) (p : Parcel) (echo : ℕ) → Newcomer w p echo → 
 added-kept w p echo n h =
     joined-kept (tokenTaken w) (begun p echo (w .«next_token»)) (newcomer-live w p echo n) (all-map (λ x k. newcomer-different w p echo x (k .0) (k .1)) (all-both (h .transfers) (n .others))) (n .live) (n .accounted) (token-kept w h)
 
--- ---- calls
-
--- both ways of a test
-pub cond-cases : {X : Type 0} (P : X → Type 0) (t : Bool) (x y : X) → (t ≡ true → P x) → (t ≡ false → P y) → P (cond t x y)
-cond-cases P true x y a b = a refl
-cond-cases P false x y a b = b refl
+-- ---- the cases of a call
 
 -- a search: none passes, or the one at the place does
 pub seek-cases : {X : Type 0} (P : X → Type 0) (test : Transfer → Bool) (l : List Transfer) (nothing : X) (found : ℕ → Transfer → X) → (All (λ x. test x ≡ false) l → P nothing)
@@ -439,8 +447,8 @@ pub confirm-cases : (P : View → Type 0) (v : View) (words : List ℕ) (t : Fra
     → P (transmittedAt v words t .state)
 unfolding transmittedAt
 confirm-cases P v words t h k =
-    seek-cases {X = After Confirmation View} (λ a. P (a .state)) (ofGeneration (t .generation)) (v .transfers) (says NotFound v) (λ place x. cond (isOutstanding t words x) (confirms v t place x) (says NotFound v)) (λ n. h)
-    (λ i lt g. let x = getD (v .transfers) i blankTransfer in cond-cases {X = After Confirmation View} (λ a. P (a .state)) (isOutstanding t words x) (confirms v t i x) (says NotFound v) (k i lt) (λ e. h))
+    seek-cases {X = After (Option Bool) View} (λ a. P (a .state)) (ofGeneration (t .generation)) (v .transfers) (says none v) (λ place x. cond (isOutstanding t words x) (confirms v t place x) (says none v)) (λ n. h)
+    (λ i lt g. let x = getD (v .transfers) i blankTransfer in cond-cases {X = After (Option Bool) View} (λ a. P (a .state)) (isOutstanding t words x) (confirms v t i x) (says none v) (k i lt) (λ e. h))
 
 -- what `status` does after its first `advance`: nothing, or a transfer observes it, and the sender is walked
 pub status-cases : (P : View → Type 0) (v : View) (s : ArqStatus) → P v
@@ -458,11 +466,6 @@ status-cases P v s h k =
 pub onward-cases : {A S : Type 0} (P : S → Type 0) (s : S) (o : Outcome S) (f : S → After A S) → P s → ((t : S) → o ≡ gives t → P (f t .state)) → P (onward s o f .state)
 onward-cases P s (gives t) f h k = k t refl
 onward-cases P s (refuses n) f h k = h
-
--- the same of a call that writes to the lent memory
-pub goes-cases : {A B : Type 0} (P : View → Type 0) (v : View) (m : Lent) (o : Outcome A) (f : A → Out B) → P v → ((a : A) → o ≡ gives a → P (f a .sender)) → P (goesOn v m o f .sender)
-goes-cases P v m (gives a) f h k = k a refl
-goes-cases P v m (refuses n) f h k = h
 
 -- neither of two tests holds
 pub neither : (a b : Bool) → (a || b) ≡ false → (a ≡ false) × (b ≡ false)
@@ -514,54 +517,11 @@ new-call-kept capacity guard firstBlock first {v} e h =
     let b = neither (eqb capacity 0) (ltb 128 capacity) (p .0) in
     subst Sound z (fresh-sound capacity guard firstBlock first (not-zero capacity (b .0)) (ltb-false 128 capacity (b .1)) h)
 
--- the first that passes is Cancelled
-pub cancel-first-kept : (p : Transfer → Bool) (v : View) → Sound v → Sound (cancelFirst p v .state)
-cancel-first-kept p v h = seek-cases {X = After Bool View} (λ a. Sound (a .state)) p (v .transfers) (says false v) (λ place x. says true (cancelAt v place x)) (λ n. h) (λ i lt t. cancel-kept v i lt h)
-
--- `cancel`
-pub cancel-call-kept : (v : View) (i : MobileIdentity) → Sound v → Sound (cancelOf v i .state)
-unfolding cancelOf
-cancel-call-kept v i h = cancel-first-kept (addressed i) v h
-
--- `cancel_transaction`
-pub cancel-transaction-call-kept : (v : View) (t : TransferToken) → Sound v → Sound (cancelTransactionOf v t .state)
-unfolding cancelTransactionOf
-cancel-transaction-call-kept v t h = cancel-first-kept (ownedBy t) v h
-
--- `cancel_all`
-pub cancel-all-call-kept : (v : View) → Sound v → Sound (cancelAllOf v)
-unfolding cancelAllOf
-cancel-all-call-kept v h =
-    let e : Transfer → Event = λ x. Cancelled (x .parcel .completion) in
-    let n : length (v .events ++ map e (v .transfers)) ≡ length (v .events) + length (v .transfers) = length-append (v .events) (map e (v .transfers)) ∙ ap (λ (k : ℕ). length (v .events) + k) (length-map (v .transfers) e) in
-    let a = h .accounted in
-    record {
-      some-capacity = h .some-capacity;
-      most-capacity = h .most-capacity;
-      live = omega arith;
-      accounted = omega arith;
-      echoes = h .echoes;
-      next-echo = h .next-echo;
-      transfers = all-none;
-      different = pairs-none;
-      selected = tt;
-      counter = h .counter;
-    }
-
 -- with no more events than before
 pub events-kept : (v : View) (l : List Event) → length l ≤ length (v .events) → Sound v → Sound (withEvents v l)
 events-kept v l n h =
     let a = h .accounted in
     record { some-capacity = h .some-capacity; most-capacity = h .most-capacity; live = h .live; accounted = omega arith; echoes = h .echoes; next-echo = h .next-echo; transfers = h .transfers; different = h .different; selected = h .selected; counter = h .counter }
-
-pop-from-kept : (v : View) (l : List Event) → v .events ≡ l → Sound v → Sound (popFrom v l .state)
-pop-from-kept v [] e h = h
-pop-from-kept v (x ∷ l) e h = let n : length (v .events) ≡ suc (length l) = ap length e in events-kept v l (omega arith) h
-
--- `pop_event`
-pub pop-event-call-kept : (v : View) → Sound v → Sound (popEventOf v .state)
-unfolding popEventOf
-pop-event-call-kept v h = pop-from-kept v (v .events) refl h
 
 -- ---- enqueue
 
@@ -591,19 +551,31 @@ count-gives h i m {n} e =
     let z : n ≡ 1 + continues i (length m) = let q = d .1 in cc in
     (ltb-false 255 (length m) (a .0), eqb-false (usageOf (h .channel)) 7 (b .0), not-false (encodable i) (d .0), z)
 
--- what a request that is granted has passed
-pub record Passes (v : View) (r : Request) (message : List ℕ) (g : Grant) : Type 0 where
-  pub events : length (v .events) < v .limits .capacity
-  pub due : v .clock .«last_ms» < r .«deadline_ms»
+-- a request, and what it is given, are proper under limits, at a clock, with these echoes
+pub record Proper (l : Limits) (c : Clock) (e : Echoes) (r : Request) (message : List ℕ) (g : Grant) : Type 0 where
+  pub due : c .«last_ms» < r .«deadline_ms»
   pub some-octets : 1 ≤ length message
-  pub room : (not (any (addressed (r .identity)) (v .transfers)) && leb (v .limits .capacity) (length (v .transfers))) ≡ false
   pub most-octets : length message ≤ 255
   pub channel : usageOf (r .channel) ≢ 7
   pub identity : encodable (r .identity) ≡ true
   pub frames : g .frames ≡ 1 + continues (r .identity) (length message)
-  pub usable : v .limits .«startup_until_block» ≤ v .clock .«last_block»
-  pub fits : heldUntil (v .limits) (r .«deadline_ms») ≤ stop
-  pub echo : freeEcho (v .echoes) (v .clock .«last_ms») ≡ some (g .echo)
+  pub usable : l .«startup_until_block» ≤ c .«last_block»
+  pub fits : heldUntil l (r .«deadline_ms») ≤ stop
+  pub echo : freeEcho e (c .«last_ms») ≡ some (g .echo)
+
+-- what a request that is granted has passed
+pub record Passes (v : View) (r : Request) (message : List ℕ) (g : Grant) : Type 0 where
+  pub events : length (v .events) < v .limits .capacity
+  pub room : (not (any (addressed (r .identity)) (v .transfers)) && leb (v .limits .capacity) (length (v .transfers))) ≡ false
+  pub proper : Proper (v .limits) (v .clock) (v .echoes) r message g
+
+-- a sender that has room for it: no live transfer is to its identity
+pub record Welcomes (v : View) (r : Request) (message : List ℕ) (g : Grant) : Type 0 where
+  pub proper : Proper (v .limits) (v .clock) (v .echoes) r message g
+  pub others : All (λ x. same (r .identity) (x .parcel .identity) ≡ false) (v .transfers)
+  pub live : length (v .transfers) < v .limits .capacity
+  pub accounted : length (v .transfers) + length (v .events) < 2 * v .limits .capacity
+  pub counter : v .«next_token» < stop
 
 granted-gives : (frames : ℕ) (o : Option ℕ) (g : Grant) → granted frames o ≡ gives g → (frames ≡ g .frames) × (o ≡ some (g .echo))
 granted-gives frames none g e = let z : _≡_ {A = ℕ} 0 1 = cc in absurd (omega arith)
@@ -626,128 +598,86 @@ grant-passes v r message {g} e =
     let x = granted-gives (t .0) (freeEcho (v .echoes) (v .clock .«last_ms»)) g (k .1) in
     record {
       events = leb-false _ _ (a .0);
-      due = leb-false _ _ (b .0);
-      some-octets = not-zero (length message) (c .0);
       room = d .0;
-      most-octets = n .0;
-      channel = n .1;
-      identity = n .2;
-      frames = sym (x .0) ∙ n .3;
-      usable = ltb-false _ _ (f .0);
-      fits = ltb-false _ _ (k .0);
-      echo = x .1;
+      proper = record {
+        due = leb-false _ _ (b .0);
+        some-octets = not-zero (length message) (c .0);
+        most-octets = n .0;
+        channel = n .1;
+        identity = n .2;
+        frames = sym (x .0) ∙ n .3;
+        usable = ltb-false _ _ (f .0);
+        fits = ltb-false _ _ (k .0);
+        echo = x .1;
+      };
     }
 
 -- identities that are the same as one are the same as the other
 same-as : (a b c : MobileIdentity) → same a b ≡ true → same b c ≡ same a c
 same-as a b c e = ap (λ (x : MobileIdentity). same x c) (sym (same-equal a b e))
 
--- the transfer that a granted request begins, in a sender without one to its identity
-module _ (v w : View) (r : Request) (message : List ℕ) (g : Grant) (p : Passes v r message g) (h : Sound w) where
-  abbrev parcel : Parcel
-  parcel = parcelOf r message (g .frames) (lowestN (w .transfers)) (w .«next_token»)
-
-  accepted-newcomer : w .limits ≡ v .limits → w .clock ≡ v .clock → g .echo < 128 → getD (w .echoes .«echo_until_ms») (g .echo) 0 ≡ heldUntil (w .limits) (r .«deadline_ms») → w .«next_token» < stop
-      → All (λ x. same (r .identity) (x .parcel .identity) ≡ false) (w .transfers) → All (λ x. overdue (w .clock) x ≡ false → x .echo ≢ g .echo) (w .transfers)
-      → length (w .transfers) < w .limits .capacity → length (w .transfers) + length (w .events) < 2 * w .limits .capacity → Newcomer w parcel (g .echo)
-  accepted-newcomer el ec low held next ids unheld a b =
-      let most = h .most-capacity in
-      let n = lowest-free 128 0 (w .transfers) (λ j m. absurd (omega arith)) (omega arith) in
-      let s : lowestN (w .transfers) ≤ length (w .transfers) = n .0 in
-      record {
-        accepted = record { identity = p .identity; channel = p .channel; some-octets = p .some-octets; most-octets = p .most-octets; frames = p .frames };
-        low = low;
-        fits = rw el (p .fits);
-        held = held;
-        place = omega arith;
-        usable = rw (el, ec) (p .usable);
-        owner = omega arith;
-        counter = next;
-        others = all-map apart (all-both (all-both ids unheld) (all-both (n .1) (h .transfers)));
-        live = a;
-        accounted = b;
-      }
+module _ (v : View) (r : Request) (message : List ℕ) (g : Grant) (p : Passes v r message g) (next : v .«next_token» < stop) (h : Sound v) where
+  -- a granted request is welcome where no live transfer is to its identity
+  pub welcomes : All (λ x. addressed (r .identity) x ≡ false) (v .transfers) → Welcomes v r message g
+  welcomes n =
+      let lt = room (any (addressed (r .identity)) (v .transfers)) refl (p .room) in
+      let ev = p .events in
+      record { proper = p .proper; others = all-map (λ x q. same-sym (r .identity) (x .parcel .identity) ∙ q) n; live = lt; accounted = omega arith; counter = next }
     where
-      apart : (x : Transfer)
-          → ((same (r .identity) (x .parcel .identity) ≡ false) × (overdue (w .clock) x ≡ false → x .echo ≢ g .echo)) × ((lowestFrom 128 0 (w .transfers) ≢ x .parcel .n) × Live (w .limits) (w .clock) (w .echoes) (w .«next_token») x)
-          → Unlike (w .clock) parcel (g .echo) x
-      apart x k = let o = k .1 .1 .owner in record { identity = k .0 .0; place = k .1 .0; owner = λ e. absurd (omega arith); other = k .0 .1 }
+      room : (b : Bool) → any (addressed (r .identity)) (v .transfers) ≡ b → (not b && leb (v .limits .capacity) (length (v .transfers))) ≡ false → length (v .transfers) < v .limits .capacity
+      room true e q = some-all (λ x a b. let z : _≡_ {A = ℕ} 0 1 = cc in absurd (omega arith)) (any-true (addressed (r .identity)) (v .transfers) e) n
+      room false e q = leb-false _ _ q
 
-  accepted-begins : Newcomer w parcel (g .echo) → Sound (kept (tokenTaken w) (begun parcel (g .echo) (w .«next_token»)))
-  accepted-begins n = added-kept w parcel (g .echo) n h
+  -- and where that one is replaced
+  pub welcomes-instead : (i : ℕ) → i < length (v .transfers) → addressed (r .identity) (getD (v .transfers) i blankTransfer) ≡ true → Welcomes (cancelAt v i (getD (v .transfers) i blankTransfer)) r message g
+  welcomes-instead i lt t =
+      let l = v .transfers in
+      let x = getD l i blankTransfer in
+      let n : length l ≡ suc (length (removeAt i l)) = length-removed l i blankTransfer lt in
+      let o : length (pushBack (v .events) (eventOf x cancels)) ≡ suc (length (v .events)) = length-back (v .events) _ in
+      let ev = p .events in
+      let lv = h .live in
+      record {
+        proper = p .proper;
+        others = all-map (λ y d. same-as (x .parcel .identity) (r .identity) (y .parcel .identity) t ∙ d .identity) (pairs-at l i blankTransfer lt (different-sym (v .clock)) (h .different));
+        live = omega arith;
+        accounted = omega arith;
+        counter = next;
+      }
 
--- what passes leaves a Sound sender
-pub accepts-kept : (v : View) (m : Lent) (r : Request) (message : List ℕ) (g : Grant) → Passes v r message g → v .«next_token» < stop → Sound v → Sound (accepts v m r message g .sender)
-unfolding accepts
-accepts-kept v m r message g p next h =
-    seek-cases {X = View} (λ (w : View). Sound (kept (tokenTaken w) (begun (parcelOf r message (g .frames) (lowestN (w .transfers)) (v .«next_token»)) (g .echo) (v .«next_token»)))) (addressed (r .identity)) (u .transfers) u (cancelAt u) none-replaced one-replaced
+-- the request is accepted: its echo is held until deadline plus guard, and a transfer begins, at the back, under the next token
+pub welcomed-kept : (v : View) (r : Request) (message : List ℕ) (g : Grant) → Welcomes v r message g → Sound v
+    → Sound (kept (tokenTaken (withEchoes v (hold (v .echoes) (g .echo) (heldUntil (v .limits) (r .«deadline_ms»))))) (begun (parcelOf r message (g .frames) (lowestN (v .transfers)) (v .«next_token»)) (g .echo) (v .«next_token»)))
+welcomed-kept v r message g w h =
+    let p = w .proper in
+    let until = heldUntil (v .limits) (r .«deadline_ms») in
+    let u = withEchoes v (hold (v .echoes) (g .echo) until) in
+    let next = w .counter in
+    let lv = w .live in
+    let most = h .most-capacity in
+    let low : g .echo < 128 = free-now (v .echoes) (h .echoes) (h .next-echo) (v .clock .«last_ms») (p .echo) .0 in
+    let n = lowest-free 128 0 (v .transfers) (λ j m. absurd (omega arith)) (omega arith) in
+    let s : lowestN (v .transfers) ≤ length (v .transfers) = n .0 in
+    added-kept u parcel (g .echo)
+    (record {
+      accepted = record { identity = p .identity; channel = p .channel; some-octets = p .some-octets; most-octets = p .most-octets; frames = p .frames };
+      low = low;
+      fits = p .fits;
+      held = held-after (v .echoes) (h .echoes) (g .echo) until low;
+      place = omega arith;
+      usable = p .usable;
+      owner = omega arith;
+      counter = next;
+      others = all-map apart (all-both (all-both (w .others) (free-unheld v (p .echo) h)) (all-both (n .1) (h .transfers)));
+      live = w .live;
+      accounted = w .accounted;
+    })
+    (hold-kept v (g .echo) until (p .echo) h)
   where
-    until : ℕ
-    until = heldUntil (v .limits) (r .«deadline_ms»)
+    parcel : Parcel
+    parcel = parcelOf r message (g .frames) (lowestN (v .transfers)) (v .«next_token»)
 
-    u : View
-    u = withEchoes v (hold (v .echoes) (g .echo) until)
-
-    sound : Sound u
-    sound = hold-kept v (g .echo) until (p .echo) h
-
-    low : g .echo < 128
-    low = free-now (v .echoes) (h .echoes) (h .next-echo) (v .clock .«last_ms») (p .echo) .0
-
-    unheld : All (λ x. overdue (v .clock) x ≡ false → x .echo ≢ g .echo) (v .transfers)
-    unheld = free-unheld v (p .echo) h
-
-    held : getD (hold (v .echoes) (g .echo) until .«echo_until_ms») (g .echo) 0 ≡ until
-    held = held-after (v .echoes) (h .echoes) (g .echo) until low
-
-    room : (b : Bool) → any (addressed (r .identity)) (v .transfers) ≡ b → (not b && leb (v .limits .capacity) (length (v .transfers))) ≡ false → All (λ x. addressed (r .identity) x ≡ false) (v .transfers) → length (v .transfers) < v .limits .capacity
-    room true e q n = some-all (λ x a b. let z : _≡_ {A = ℕ} 0 1 = cc in absurd (omega arith)) (any-true (addressed (r .identity)) (v .transfers) e) n
-    room false e q n = leb-false _ _ q
-
-    none-replaced : All (λ x. addressed (r .identity) x ≡ false) (v .transfers) → Sound (kept (tokenTaken u) (begun (parcelOf r message (g .frames) (lowestN (v .transfers)) (v .«next_token»)) (g .echo) (v .«next_token»)))
-    none-replaced n =
-        let lt = room (any (addressed (r .identity)) (v .transfers)) refl (p .room) n in
-        let ev = p .events in
-        accepted-begins v u r message g p sound
-        (accepted-newcomer v u r message g p sound refl refl low held next (all-map (λ x q. same-sym (r .identity) (x .parcel .identity) ∙ q) n) unheld lt (omega arith))
-
-    one-replaced : (i : ℕ) → i < length (v .transfers) → addressed (r .identity) (getD (v .transfers) i blankTransfer) ≡ true
-        → Sound (kept (tokenTaken (cancelAt u i (getD (v .transfers) i blankTransfer))) (begun (parcelOf r message (g .frames) (lowestN (removeAt i (v .transfers))) (v .«next_token»)) (g .echo) (v .«next_token»)))
-    one-replaced i lt t =
-        let l = v .transfers in
-        let x = getD (v .transfers) i blankTransfer in
-        let n : length (v .transfers) ≡ suc (length (removeAt i (v .transfers))) = length-removed (v .transfers) i blankTransfer lt in
-        let o : length (pushBack (v .events) (Cancelled (getD (v .transfers) i blankTransfer .parcel .completion))) ≡ suc (length (v .events)) = length-back (v .events) _ in
-        let ev = p .events in
-        let lv = h .live in
-        let s : Sound (cancelAt u i x) = cancel-kept u i lt sound in
-        accepted-begins v (cancelAt u i x) r message g p s
-        (accepted-newcomer v (cancelAt u i x) r message g p s refl refl low held next
-        (all-map (λ y d. same-as (x .parcel .identity) (r .identity) (y .parcel .identity) t ∙ d .identity) (pairs-at l i blankTransfer lt (different-sym (v .clock)) (h .different))) (all-removed l i blankTransfer lt unheld)
-        (omega arith) (omega arith))
-
--- `enqueue`
-pub enqueue-call-kept : (v : View) (m : Lent) (r : Request) (message : List ℕ) (block now : ℕ) → Sound v → Sound (enqueueOf v m r message block now .sender)
-unfolding enqueueOf
-enqueue-call-kept v m r message block now h =
-    goes-cases Sound v m (admitted v m block now) (λ w. goesOn w m (grantOf w r message) (λ g. accepts w m r message g)) h
-    (λ w e. let s = admitted-kept v m block now e h in
-    let n = admitted-tokens v m block now e in
-    goes-cases Sound w m (grantOf w r message) (λ g. accepts w m r message g) s (λ g q. accepts-kept w m r message g (grant-passes w r message q) (omega arith) s))
-
--- ---- submitted
-
-submitted-at-kept : (v : View) (m : Lent) (t : FrameToken) → Sound v → Sound (submittedAt v m t .sender)
-submitted-at-kept v m t h =
-    submit-cases (λ o. Sound (o .sender)) v m t h
-    (λ i lt e. let x = getD (v .transfers) i blankTransfer in
-    let q = both (isReady x) (eqb (front (x .sets .queue)) (t .frame)) e in
-    changed-back-unselected v i (inFlight (t .frame) (v .clock .«last_block») x) lt refl refl refl
-    (in-flight-live x (all-at (v .transfers) i blankTransfer lt (h .transfers)) (t .frame) (q .0) (sym (eqb-true (front (x .sets .queue)) (t .frame) (q .1)))) h)
-
--- `submitted`
-pub submitted-call-kept : (v : View) (m : Lent) (t : FrameToken) (block now : ℕ) → Sound v → Sound (submittedOf v m t block now .sender)
-unfolding submittedOf
-submitted-call-kept v m t block now h =
-    goes-cases Sound v m (refuse (short m) 16 (ticked v block now)) (λ w. submittedAt w m t) h
-    (λ w e. submitted-at-kept w m t (ticked-kept v block now (passed (short m) 16 (ticked v block now) e .1) h))
+    apart : (x : Transfer)
+        → ((same (r .identity) (x .parcel .identity) ≡ false) × (overdue (v .clock) x ≡ false → x .echo ≢ g .echo)) × ((lowestFrom 128 0 (v .transfers) ≢ x .parcel .n) × Live (v .limits) (v .clock) (v .echoes) (v .«next_token») x)
+        → Unlike (v .clock) parcel (g .echo) x
+    apart x k = let o = k .1 .1 .owner in record { identity = k .0 .0; place = k .1 .0; owner = λ e. absurd (omega arith); other = k .0 .1 }

@@ -9,7 +9,7 @@ use native.Mathlib.Omega.{arith}
 use lib.Dec.{eqb, ltb}
 use lib.ListN.{length, drop, getD, length-set, length-drop}
 use lib.Seq.{length-take-le}
-use borrow.Author.Tests.{eqb-true, eqb-false, eq-eqb, ne-eqb, lt-ltb, le-ltb, ltb-true, ltb-false, not-true}
+use borrow.Author.Tests.{eqb-true, eqb-false, eq-eqb, ne-eqb, lt-ltb, le-ltb, ltb-true, ltb-false}
 use Rattle.token.specs.Token.{stop, fewerThan}
 use Rattle.rach.specs.Identity.{encodable}
 use Rattle.rach.specs.declared.MobileIdentity.{MobileIdentity}
@@ -24,10 +24,10 @@ use Rattle.arq.specs.Encode.{encodeOf}
 use Rattle.arq.specs.Decode.{decodeOf}
 use Rattle.arq.specs.Cut.{continues, cutFrame, frameOf}
 use Rattle.arq.proofs.Theorems.{cut-decodes}
-use Rattle.receiver.proofs.Ways.{by-bool, true-false, pick-true, pick-false, both-true}
+use Rattle.receiver.proofs.PushCases.{by-bool, true-false, pick-true, pick-false, both-true}
 use Rattle.transfer.specs.declared.Error.the-variants.{EchoExhausted}
 use Rattle.transfer.specs.declared.Event.{Event}
-use Rattle.transfer.specs.declared.Event.the-variants.{Complete, Expired, Failed}
+use Rattle.transfer.specs.declared.Event.the-variants.{Failed}
 use Rattle.transfer.specs.declared.Fate.{Fate}
 use Rattle.transfer.specs.declared.Fate.the-variants.{Ends, Restarts, Stays}
 use Rattle.transfer.specs.declared.FrameToken.{FrameToken}
@@ -36,18 +36,20 @@ use Rattle.transfer.specs.declared.Transfer.{Transfer}
 use Rattle.transfer.specs.declared.PreparedFrame.{PreparedFrame}
 use Rattle.transfer.specs.Lists.{removeAt, pushBack}
 use Rattle.transfer.specs.Queue.{front, oneLeft}
-use Rattle.transfer.specs.State.{Limits, Clock, Echoes, View, Lent, Out, withClock, withTransfers, withSelected, short, ticked, admitted, says, refusal, goesOn, seek, ofGeneration, blankTransfer}
+use Rattle.transfer.specs.State.{Limits, Clock, Echoes, View, Lent, Out, withClock, withTransfers, withSelected, short, ticked, admitted, says, refusal, goesOn, seek, ofGeneration, blankTransfer, completes, expires, eventOf}
 use Rattle.transfer.specs.Echo.{freeEcho, heldUntil}
-use Rattle.transfer.specs.Transfer.{headerOf, messageOf, doneOf, settleOf, restartDue}
-use Rattle.transfer.specs.Advance.{overdue, fateOf, restart, landed, step, unasked, walked}
+use Rattle.transfer.specs.Transfer.{headerOf, messageOf}
+use Rattle.transfer.specs.Advance.{fateOf, restart, landed, step, unasked, walked}
 use Rattle.transfer.specs.Enqueue.{Grant, granted, allocated, grantOf, accepts, enqueueOf}
 use Rattle.transfer.specs.Prepare.{isReady, packedOf, frontOf, selects, chooseFrom, choose, prepareOf, repeated, onlyEcho, prioritizeAt, preparePrioritizedOf}
 use Rattle.transfer.specs.Submitted.{isSelected, handedIn, submittedAt, submittedOf}
 use Rattle.transfer.specs.Invariant.{All, Some, Live, Selected, Sound}
-use Rattle.transfer.proofs.Around.{none-free}
+use Rattle.transfer.proofs.Alive.{ready-some}
+use Rattle.transfer.proofs.EchoSearch.{none-free}
 use Rattle.transfer.proofs.Frames.{front-low}
 use Rattle.transfer.proofs.Listed.{all-at, some-map, some-all, some-removed, pairs-at, length-back}
-use Rattle.transfer.proofs.Kept.{different-sym, seek-cases, prioritize-cases, submit-cases, neither}
+use Rattle.transfer.proofs.Invariant.{different-sym, seek-cases, prioritize-cases, submit-cases, neither}
+use Rattle.transfer.proofs.Walked.{fate-cases}
 use Rattle.transfer.proofs.Calls.{admitted-walked-kept, prioritized-kept, restart-fails-exactly}
 
 -- ---- what is written to the lent memory
@@ -177,13 +179,7 @@ selects-never v x o p e n q =
 
 -- a transfer that is ready has a front
 ready-low : (l : Limits) (c : Clock) (e : Echoes) (next : ℕ) (x : Transfer) → Live l c e next x → isReady x ≡ true → front (x .sets .queue) < x .parcel .frames
-ready-low l c e next x h r =
-    let q : x .sets .queue ≢ 0 = eqb-false (x .sets .queue) 0 (not-true (eqb (x .sets .queue) 0) r) in
-    front-low (x .parcel .frames) (x .sets .queue) (positive (x .sets .queue) q) (h .sets .queue)
-  where
-    positive : (n : ℕ) → n ≢ 0 → 0 < n
-    positive zero f = absurd (f refl)
-    positive (suc n) f = omega arith
+ready-low l c e next x h r = front-low (x .parcel .frames) (x .sets .queue) (ready-some x r) (h .sets .queue)
 
 -- the choice of a frame refuses nothing
 pub choose-never : (v : View) (octets : List ℕ) → 32640 ≤ length octets → Sound v → (n : ℕ) → choose v octets .outcome ≢ refuses n
@@ -333,23 +329,17 @@ back-same (z ∷ l) x y e = back-same l x y (tail e)
 
 -- no transfer's fate is to end Failed, so a Failed is a restart's
 pub fails-restarts : (u : View) (asked : Bool) (x : Transfer) → step u (asked, x) .events ≡ pushBack (u .events) (Failed (x .parcel .completion) EchoExhausted) → fateOf (u .clock) asked x ≡ Restarts
-unfolding step fateOf
-fails-restarts u asked x = go (overdue (u .clock) x) (doneOf x) (asked || restartDue (u .clock .«last_block») (settleOf (u .clock .«last_block») x))
+unfolding step
+fails-restarts u asked x =
+    fate-cases (λ f. landed u x f .events ≡ pushBack (u .events) failed → f ≡ Restarts) (u .clock) asked x
+    (λ q. let w : eventOf x expires ≡ failed = back-same (u .events) (eventOf x expires) failed q in let z : _≡_ {A = ℕ} 0 1 = cc in absurd (omega arith))
+    (λ o q. let w : eventOf x completes ≡ failed = back-same (u .events) (eventOf x completes) failed q in let z : _≡_ {A = ℕ} 0 1 = cc in absurd (omega arith)) (λ o q. refl)
+    (λ o d r q. let l : length (pushBack (u .events) failed) ≡ suc (length (u .events)) = length-back (u .events) failed in
+    let m : length (u .events) ≡ length (pushBack (u .events) failed) = ap length q in
+    absurd (omega arith))
   where
     failed : Event
     failed = Failed (x .parcel .completion) EchoExhausted
-
-    fate : Bool → Bool → Bool → Fate
-    fate o d r = cond o (Ends (Expired (x .parcel .completion))) (cond d (Ends (Complete (x .parcel .completion))) (cond r Restarts (Stays (settleOf (u .clock .«last_block») x))))
-
-    go : (o d r : Bool) → landed u x (fate o d r) .events ≡ pushBack (u .events) failed → fate o d r ≡ Restarts
-    go true d r q = let w : Expired (x .parcel .completion) ≡ failed = back-same (u .events) (Expired (x .parcel .completion)) failed q in let z : _≡_ {A = ℕ} 0 1 = cc in absurd (omega arith)
-    go false true r q = let w : Complete (x .parcel .completion) ≡ failed = back-same (u .events) (Complete (x .parcel .completion)) failed q in let z : _≡_ {A = ℕ} 0 1 = cc in absurd (omega arith)
-    go false false true q = refl
-    go false false false q =
-        let l : length (pushBack (u .events) failed) ≡ suc (length (u .events)) = length-back (u .events) failed in
-        let m : length (u .events) ≡ length (pushBack (u .events) failed) = ap length q in
-        absurd (omega arith)
 
 -- a step is Failed exactly if its transfer restarts and each of the 128 echoes is held until later
 pub step-fails-exactly : (u : View) (x : Transfer) (asked : Bool) → length (u .echoes .«echo_until_ms») ≡ 128 → u .echoes .«next_echo» < 128
