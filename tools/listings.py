@@ -1,6 +1,6 @@
 #!/usr/bin/env python3
 # Stored inputs for the program `listings`, and what it must print for them, by a model of document 01 that shares nothing
-# with the port. Run from the root: writes crates/listings/stdin and crates/listings/stdout, and the listings among the
+# with the port. Run from the root: writes stdin and stdout of crates/listings and of crates/arq_show, and the listings among the
 # samples of ./arq-show, samples/arq-show/NAME/stdin and stdout.
 import pathlib
 import random
@@ -232,6 +232,14 @@ def inputs():
     yield own + one * 1100
 
 
+def shown():
+    """What arq_show is run with: 01's sample, then frames over several chunks, of all echoes and of the longest message."""
+    one = begin(0, 1, b"A", polling=1)
+    message = bytes(range(255))
+    return identity(0, 1) + one + one[:13] + b"\1" + b"".join(begin(0, 1, bytes([echo]), echo=echo) for echo in range(128)) + b"".join(
+        cut(0, 1, message, echo=42)) + one[:3]
+
+
 def samples():
     one, own = begin(0, 1, b"A", polling=1), identity(0, 1)
     text = bytes(range(1, 31))
@@ -259,3 +267,5 @@ if __name__ == "__main__":
         f.write(b"".join(len(i).to_bytes(2, "big") + i for i in stored))
     with open("crates/listings/stdout", "w") as f:
         f.write("".join(map(listing, stored)))
+    pathlib.Path("crates/arq_show/stdin").write_bytes(shown())
+    pathlib.Path("crates/arq_show/stdout").write_text(listing(shown()))

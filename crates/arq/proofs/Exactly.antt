@@ -1,4 +1,4 @@
--- Encode, decode and the cut held to the tables and words of specs/Exactly.antt. Assumes nothing.
+-- Encode, decode and the cut held to the words of Tables. Assumes nothing.
 use mathlib.Core.Path.{_≡_, refl, sym, ap, subst, _∙_}
 use mathlib.Core.Bool.{Bool, true, false, cond, not, _||_}
 use mathlib.Core.List.{List, [], _∷_, _++_}
@@ -34,7 +34,7 @@ use Rattle.arq.specs.Encode.{headerChecked, beginChecked, continueChecke
 use Rattle.arq.specs.Decode.{decodeOf}
 use Rattle.arq.specs.Parts.{headerAt, decodeBegin, decodeContinue, decodeKind, decodeUsage, decodeByParts}
 use Rattle.arq.specs.Cut.{continues, cutFrame, countOf, frameOf}
-use Rattle.arq.specs.Exactly.{said, table, beginTable, continueTable, cutTable, readBeginTable, readContinueTable, decodeTable, beginBits, continueBits, BeginAlike, ContinueAlike, ReadAlike, SkippedAlike, GivenOut, CutBegin, CutContinue}
+use Rattle.arq.proofs.Tables.{said, table, beginTable, continueTable, cutTable, readBeginTable, readContinueTable, decodeTable, beginBits, continueBits, BeginAlike, ContinueAlike, ReadAlike, SkippedAlike, GivenOut, CutBegin, CutContinue}
 use Rattle.arq.proofs.Cuts.{room-most, begin-holds, continue-holds}
 use Rattle.arq.proofs.Laid.{packed-bits}
 use Rattle.arq.proofs.Parts.{then-refuse, decode-parts}

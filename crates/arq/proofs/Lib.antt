@@ -10,5 +10,6 @@ pub mod Readings
 pub mod Reencoded
 pub mod Round
 pub mod Samples
+pub mod Tables
 pub mod Theorems
 pub mod Written

@@ -1,13 +1,17 @@
--- What each reading of an answer of the codec and of the cut says: every value is told as it is. Assumes nothing.
+-- What each reading of an answer of the codec and of the cut, and of a frame, says: every value is told as it is. Assumes nothing.
 use mathlib.Core.Path.{_≡_, refl}
 use Prim.Native.Nat.{ℕ}
+use lib.ListN.{take}
+use Rattle.field.specs.Bits.{bitsOf}
 use Rattle.spach.specs.declared.SpachError.{SpachError}
 use Rattle.spach.specs.Refusal.{gives, refuses, numberOf, verdictOf}
 use Rattle.arq.specs.declared.CountAnswer.the-variants.{Frames, Refused}
 use Rattle.arq.specs.declared.FrameAnswer.{FrameAnswer}
 use Rattle.arq.specs.declared.Encoded.{Encoded}
-use Rattle.arq.specs.Frame.{frameAnswer}
-use Rattle.arq.specs.Encode.{encodedAnswer}
+use Rattle.arq.specs.declared.ArqFrame.{ArqFrame}
+use Rattle.arq.specs.declared.FrameKind.the-variants.{Begin, Continue}
+use Rattle.arq.specs.Frame.{beginData, continueData, frameAnswer}
+use Rattle.arq.specs.Encode.{byKind, encodedAnswer}
 use Rattle.arq.specs.Cut.{countAnswer}
 
 pub counts-say : ((n : ℕ) → countAnswer (Frames n) ≡ gives n) × ((e : SpachError) → countAnswer (Refused e) ≡ refuses (numberOf e))
@@ -18,3 +22,13 @@ frames-say r = refl
 
 pub encoded-says : (r : Encoded) → encodedAnswer r ≡ (verdictOf (r .verdict), r .frame)
 encoded-says r = refl
+
+-- ---- a frame's parts
+
+-- the data bits that a frame has
+pub data-say : (f : ArqFrame) → (beginData f ≡ take (f .«begin_bits») (bitsOf (f .«begin_data»))) × (continueData f ≡ take 79 (bitsOf (f .«continue_data»)))
+data-say f = (refl, refl)
+
+-- by kind
+pub kinds-say : {A : Type 0} (a b : A) → (byKind Begin a b ≡ a) × (byKind Continue a b ≡ b)
+kinds-say a b = (refl, refl)

@@ -22,7 +22,7 @@ use Rattle.arq.specs.Round.{thereAndBack, normal, widened, carried}
 use Rattle.arq.proofs.Cuts.{carries, carries-all, carries-octets, count-holds, count-least, count-most}
 use Rattle.arq.proofs.Round.{encode-back, cut-back}
 use Rattle.arq.proofs.Reencoded.{decode-again, decode-same, decode-same-begin}
-use Rattle.arq.specs.Exactly.{said, table, beginTable, continueTable, cutTable, decodeTable, beginBits, continueBits, ReadAlike, SkippedAlike, GivenOut, CutBegin, CutContinue}
+use Rattle.arq.proofs.Tables.{said, table, beginTable, continueTable, cutTable, decodeTable, beginBits, continueBits, ReadAlike, SkippedAlike, GivenOut, CutBegin, CutContinue}
 use Rattle.arq.proofs.Exactly.{begin-said, continue-said, begin-lays, continue-lays, encode-alike, decode-said, decode-heard, continue-alike, count-said, frame-said, count-fits, frame-out, begin-given, continue-given}
 
 -- What encode accepts is decoded to the same frame, as far as it is read. The premise holds of every frame: its octet
@@ -69,7 +69,7 @@ cut-least = count-least
 pub cut-most : (i : MobileIdentity) (n : ℕ) → n ≤ 255 → 1 + continues i n ≤ 27
 cut-most = count-most
 
--- ---- held to 01 over all inputs, in the words of specs/Exactly.antt: a definition that is changed, and its code alike, meets these no more
+-- ---- held to 01 over all inputs, in the words of Tables: a definition that is changed, and its code alike, meets these no more
 
 -- *Encode* refuses exactly so, a Begin and a Continue
 pub encode-refuses-begin : (f : ArqFrame) → f .kind ≡ Begin → said (encodeOf f) ≡ table (beginTable f) (gives tt)

@@ -3,10 +3,10 @@ use mathlib.Core.Path.{_≡_, refl}
 use mathlib.Core.Logic.{_↔_}
 use mathlib.Core.Bool.{Bool, true, false, cond, true≢false}
 use mathlib.Core.List.{List, [], _∷_, _++_}
-use Prim.Native.Nat.{ℕ, zero, suc, _+_, _*_, _/_, _%_, _^_}
+use Prim.Native.Nat.{ℕ, zero, suc, _+_, _*_, _/_, _%_, _^_, _<_}
 use lib.Dec.{eqb}
 use lib.ListN.{length, take, drop, getD}
-use Rattle.field.specs.Bits.{bits, value, bitsOf, octets, field, put, splice}
+use Rattle.field.specs.Bits.{bits, value, Octets, bitsOf, octets, field, put, splice}
 use Rattle.field.specs.Layout.{layout, upTo, joined, anySet}
 
 -- ---- bits and numbers
@@ -30,6 +30,10 @@ bits-of-exactly x xs = (refl, refl)
 pub octets-exactly : (n : ℕ) (bs : List Bool) → (octets 0 bs ≡ []) × (octets (suc n) bs ≡ value (take 8 bs) ∷ octets n (drop 8 bs))
 unfolding octets
 octets-exactly n bs = (refl, refl)
+
+-- octets are below 256
+pub octet-exactly : (xs : List ℕ) → Octets xs ≡ ((i : ℕ) → getD xs i 0 < 2 ^ 8)
+octet-exactly xs = refl
 
 -- ---- fields
 

@@ -5,7 +5,7 @@ use mathlib.Core.List.{List, [], _∷_, _++_, append-nil}
 use Prim.Native.Nat.{ℕ, zero, suc, _+_, _*_, _/_, _%_, _^_, _≤_, _<_}
 use native.Mathlib.Omega.{arith}
 use native.Mathlib.Nat.{pow-suc, div-lt-iff-lt-mul}
-use lib.ListN.{length, take, drop, replicate}
+use lib.ListN.{length, take, drop, replicate, set}
 use lib.Seq.{take-length}
 use borrow.Author.Tests.{lt-ltb, le-ltb}
 use Rattle.io.specs.Digits.{digits, glyph}
@@ -24,7 +24,7 @@ use Rattle.receiver.specs.declared.Reception.the-variants.{Ignored, Accepted}
 use Rattle.receiver.specs.Receiver.{Out, newOf, pushOf, statusAnswer}
 use Rattle.receiver.specs.Demand3.{Push, runs}
 use Rattle.listing.specs.declared.Session.{Session}
-use Rattle.listing.specs.Text.{decimalIn, decimalOf, hexOf}
+use Rattle.listing.specs.Text.{written, decimalIn, decimalOf, hexOf}
 use Rattle.listing.specs.Line.{answerText, heldText, octetsText, deliveryOf, deliveryText, lineOf, cutLine, messagesLine}
 use Rattle.listing.specs.Session.{openOf, pushWith, pushesOf, framesOf, counted, outOf, stepOf, afterOf, linesOf, newSession, lastLines, listingFrom, listingOf}
 use Rattle.listing.proofs.Sessions.{after-runs, after-append, lines-append, frames-append}
@@ -221,3 +221,14 @@ module _ (s : ArqReassembler) where
       let n : afterOf (newSession s) l .frames + 1 ≡ length l + 1 = omega (arith, frames-counted (newSession s) l) in
       lines-append (newSession s) l (p ∷ [])
       ∙ ap (λ (t : List ℕ). linesOf (newSession s) l ++ t) (append-nil (lineOf (afterOf (newSession s) l .frames + 1) (outOf (afterOf (newSession s) l) p)) ∙ ap₂ lineOf n (at-run l p))
+
+-- ---- what a push leaves, and what is written
+
+-- the session after a push: the receiver that it returned, a frame more, and a message more if one was delivered
+pub step-says : (x : Session) (p : Push) → let o = pushOf (x .receiver) (p .octets) (p .buffer) in stepOf x p ≡ record { receiver = o .receiver; frames = x .frames + 1; messages = x .messages + counted (deliveryOf (o .outcome)) }
+step-says x p = refl
+
+-- octet by octet from a place on
+pub written-says : (t : List ℕ) (i x : ℕ) (xs : List ℕ) → (written t i [] ≡ t) × (written t i (x ∷ xs) ≡ written (set t i x) (suc i) xs)
+unfolding written
+written-says t i x xs = (refl, refl)

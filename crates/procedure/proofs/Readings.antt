@@ -1,10 +1,13 @@
 -- What each reading of the procedure's answers says: every value is told as it is. Assumes nothing.
 use mathlib.Core.Path.{_≡_, refl}
+use mathlib.Core.Bool.{false}
 use mathlib.Core.List.{List}
 use Prim.Native.Nat.{ℕ}
 use Rattle.spach.specs.Refusal.{gives, refuses, verdictOf}
 use Rattle.inactivity.specs.declared.ProcedureError.{ProcedureError}
 use Rattle.inactivity.specs.Inactivity.{refusalOf}
+use Rattle.inactivity.specs.declared.State.the-variants.{Idle}
+use Rattle.receiver.specs.Receiver.{blankReceiver}
 use Rattle.procedure.specs.declared.Made.{Made}
 use Rattle.procedure.specs.declared.Reset.{Reset}
 use Rattle.procedure.specs.declared.ReceiveEvent.{ReceiveEvent}
@@ -16,7 +19,7 @@ use Rattle.procedure.specs.declared.Advanced.{Advanced}
 use Rattle.procedure.specs.declared.SendEvent.{SendEvent}
 use Rattle.procedure.specs.declared.SendAnswer.the-variants as sends
 use Rattle.procedure.specs.declared.Sent.{Sent}
-use Rattle.procedure.specs.Procedure.{madeAnswer, hasReset, receiveAnswer, received, timerAnswer, advanced, sendAnswer, sent}
+use Rattle.procedure.specs.Procedure.{blankProcedure, madeAnswer, hasReset, receiveAnswer, received, timerAnswer, advanced, sendAnswer, sent}
 
 pub made-says : (r : Made) → madeAnswer r ≡ (verdictOf (r .verdict), r .procedure)
 made-says r = refl
@@ -41,3 +44,7 @@ sends-say = (λ e. refl, λ e. refl)
 
 pub sent-says : (r : Sent) → sent r ≡ record { outcome = sendAnswer (r .answer); state = r .procedure }
 sent-says r = refl
+
+-- beside a refused constructor: the blank receiver, and a timer of first number 0
+pub blank-says : blankProcedure ≡ record { receiver = blankReceiver; inactivity = record { state = Idle; «last_block» = 0; «unsolicited_pending» = false; transaction = record { 0 = 0 }; «next_token» = 1 } }
+blank-says = refl

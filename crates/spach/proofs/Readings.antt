@@ -22,7 +22,7 @@ use Rattle.spach.specs.declared.AddressAnswer.the-variants as addresses
 use Rattle.spach.specs.Refusal.{numberOf, Outcome, gives, refuses, refuse, andThen, After, onward, verdictOf}
 use Rattle.spach.specs.Answered.{answered}
 use Rattle.spach.specs.Identity.{identityAnswer}
-use Rattle.spach.specs.Header.{headerAAt, addressAt, channelAnswer, headerAAnswer, addressAnswer}
+use Rattle.spach.specs.Header.{channelOf, headerAAt, addressAt, channelAnswer, headerAAnswer, addressAnswer}
 
 -- the numbers of the errors
 pub numbers : (numberOf Length ≡ 1) × (numberOf Identity ≡ 2) × (numberOf UnsupportedUsage ≡ 3) × (numberOf UnsupportedFrame ≡ 4) × (numberOf Encrypted ≡ 5) × (numberOf Reserved ≡ 6) × (numberOf Filler ≡ 7)
@@ -48,6 +48,14 @@ module _ {A : Type 0} where
   -- a value, or a refusal beside the blank value
   pub answered-says : (blank a : A) (n : ℕ) → (answered blank (gives a) ≡ (gives tt, a)) × (answered blank (refuses n) ≡ (refuses n, blank))
   answered-says blank a n = (refl, refl)
+
+  -- a test that holds refuses by its number, whatever follows; else it is what follows
+  pub refuse-says : (n : ℕ) (o : Outcome A) → (refuse true n o ≡ refuses n) × (refuse false n o ≡ o)
+  refuse-says n o = (refl, refl)
+
+  -- with a value on to the next; a refusal stays
+  pub then-says : {B : Type 0} (a : A) (n : ℕ) (f : A → Outcome B) → (andThen (gives a) f ≡ f a) × (andThen (refuses n) f ≡ refuses n)
+  then-says a n f = (refl, refl)
 
   -- a refusal leaves the state; else the call goes on with what was let through
   pub onward-says : {S : Type 0} (s t : S) (n : ℕ) (f : S → After A S) → (onward s (gives t) f ≡ f t) × (onward s (refuses n) f ≡ record { outcome = refuses n; state = s })
@@ -86,3 +94,7 @@ module _ (o : ℕ) (bs : List Bool) where
       (gives (record { identity = identityOf (field o 2 bs) (field (o + 5) w bs); «reservation_response» = not (eqb (field (o + 3) 1 bs) 0); reader = record { offset = o + 5 + w } }))))
   unfolding addressAt
   address-exactly = refl
+
+-- a usage alone, whatever the number
+pub channel-of-exactly : (u : ℕ) → channelOf u ≡ cond (eqb u 3) (gives Arch) (cond (eqb u 4) (gives Smsch) (cond (eqb u 7) (gives Pch) (refuses 3)))
+channel-of-exactly u = refl

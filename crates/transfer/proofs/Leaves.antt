@@ -24,7 +24,7 @@ use Rattle.spach.specs.Refusal.{numberOf, Outcome, gives, refuses, refuse, andT
 use Rattle.arq.specs.declared.ArqHeader.{ArqHeader}
 use Rattle.arq.specs.declared.PackedFrame.{PackedFrame}
 use Rattle.arq.specs.Cut.{continues}
-use Rattle.arq.specs.Exactly.{said, table, cutTable}
+use Rattle.arq.proofs.Tables.{said, table, cutTable}
 use Rattle.arq.proofs.Theorems.{count-refuses}
 use Rattle.receiver.specs.declared.ArqStatus.{ArqStatus}
 use Rattle.receiver.specs.Map.{withBit}

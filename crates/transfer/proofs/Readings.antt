@@ -1,15 +1,22 @@
 -- What each reading of an answer of the sender says: every value is told as it is. Assumes nothing.
 use mathlib.Core.Path.{_≡_, refl}
 use mathlib.Core.Bool.{Bool}
+use mathlib.Core.List.{[]}
 use mathlib.Core.Option.{none, some}
-use Prim.Native.Nat.{ℕ}
+use Prim.Native.Nat.{ℕ, _-_, _/_, _%_, _^_}
+use lib.Bits.{bitAnd, bitXor}
+use lib.Dec.{eqb}
+use lib.ListN.{replicate}
 use Rattle.rach.specs.declared.MobileIdentity.{MobileIdentity}
+use Rattle.spach.specs.Refusal.{gives, refuses, After}
 use Rattle.transfer.specs.declared.Addressee.the-variants as addressees
 use Rattle.transfer.specs.declared.CompletionAnswer.the-variants as completions
 use Rattle.transfer.specs.declared.Confirmation.the-variants.{NotFound, Found}
 use Rattle.transfer.specs.declared.Event.{Event}
 use Rattle.transfer.specs.declared.FreeEcho.the-variants as echoes
 use Rattle.transfer.specs.declared.NextEvent.the-variants as nexts
+use Rattle.transfer.specs.Queue.{has, firstFrames, continuesOf, frameAlone, without}
+use Rattle.transfer.specs.State.{View, Lent, Out, blankView, says, refusal, goesOn}
 use Rattle.transfer.specs.Echo.{freeAnswer}
 use Rattle.transfer.specs.Numbers.{endingOf, nextOf, confirmationOf, completionOf, addresseeOf}
 
@@ -32,3 +39,36 @@ addressee-says = (refl, λ i. refl)
 -- the search for an echo
 pub free-says : (freeAnswer echoes.Nothing ≡ none) × ((echo : ℕ) → freeAnswer (echoes.Echo echo) ≡ some echo)
 free-says = (refl, λ echo. refl)
+
+-- ---- words of the calls' definitions
+
+-- a refusal leaves this sender and writes nothing; else the call goes on
+pub goes-on-says : {A B : Type 0} (v : View) (m : Lent) (a : A) (n : ℕ) (f : A → Out B) → (goesOn v m (gives a) f ≡ f a) × (goesOn v m (refuses n) f ≡ record { outcome = refuses n; sender = v; lent = m })
+goes-on-says v m a n f = (refl, refl)
+
+pub refusal-says : {A : Type 0} (n : ℕ) (v : View) (m : Lent) → _≡_ {A = Out A} (refusal n v m) (record { outcome = refuses n; sender = v; lent = m })
+refusal-says n v m = refl
+
+-- what a call says, and leaves
+pub says-says : {A : Type 0} (a : A) (v : View) → _≡_ {A = After A View} (says a v) (record { outcome = gives a; state = v })
+says-says a v = refl
+
+-- frame k is in a set whose bit of weight 2^k is set
+pub has-exactly : (q k : ℕ) → has q k ≡ eqb (q / 2 ^ k % 2) 1
+has-exactly q k = refl
+
+-- the first n frames, the Continues among them, a frame alone, those of one set that are not in another
+pub sets-say : (n k a b : ℕ) → (firstFrames n ≡ 2 ^ n - 1) × (continuesOf n ≡ 2 ^ n - 2) × (frameAlone k ≡ 2 ^ k) × (without a b ≡ bitXor a (bitAnd a b))
+sets-say n k a b = (refl, refl, refl, refl)
+
+-- beside a refused constructor: capacity 0, nothing held, every number 0
+pub blank-says : blankView ≡ record {
+  limits = record { capacity = 0; «startup_until_block» = 0; «echo_guard_ms» = 0 };
+  clock = record { «last_block» = 0; «last_ms» = 0 };
+  transfers = [];
+  events = [];
+  echoes = record { «echo_until_ms» = replicate 128 0; «next_echo» = 0 };
+  selected = none;
+  «next_token» = 0;
+}
+blank-says = refl

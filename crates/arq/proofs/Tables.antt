@@ -1,7 +1,7 @@
 -- 01, module 3 and "Refused": the words of the laws (proofs/Theorems.antt) that hold encode, decode and the cut to 01 over all inputs: the
 -- refusals as tables of tests and numbers, the bits of a frame as one table, what is read of a frame, and what a frame given out
--- is. Each is said by the fields themselves, apart from the definitions that it holds; the words of bits and identities that it uses are held by
--- laws of their own (`Exactly` of field, `Laws` of rach). Assumes nothing.
+-- is. Each is said by the fields themselves, apart from the definitions that it holds; the words of refusals, bits and identities that it
+-- uses are held by laws of their own (`Readings` of spach, `Exactly` of field, `Laws` of rach). Assumes nothing.
 use mathlib.Core.Path.{_≡_}
 use mathlib.Core.Bool.{Bool, false, cond, not, _||_}
 use mathlib.Core.List.{List, [], _∷_}
