@@ -7,7 +7,7 @@ use Prim.Native.Nat.{ℕ, zero, suc, _+_, _*_, _/_, _%_, _^_, _<_}
 use lib.Dec.{eqb}
 use lib.ListN.{length, take, drop, getD}
 use Rattle.field.specs.Bits.{bits, value, Octets, bitsOf, octets, field, put, splice}
-use Rattle.field.specs.Layout.{layout, upTo, joined, anySet}
+use Rattle.field.specs.Layout.{layout, upTo, joined, anySet, FromFields, reading}
 
 -- ---- bits and numbers
 
@@ -79,3 +79,8 @@ any-set-exactly (false ∷ bs) = let r = any-set-exactly bs in ((λ e k. at (r .
     at : ((k : ℕ) → getD bs k false ≡ false) → (k : ℕ) → getD (false ∷ bs) k false ≡ false
     at f zero = refl
     at f (suc k) = f k
+
+-- a layout read: each field at the offset at which the one before it ends
+pub reading-exactly : {A : Type 0} (w v o : ℕ) (fs : List (ℕ × ℕ)) (bs : List Bool) (k : ℕ → A) (j : ℕ → FromFields fs A)
+    → (reading {A = A} [] o bs k ≡ k o) × (reading {A = A} ((w, v) ∷ fs) o bs j ≡ reading {A = A} fs (o + w) bs (j (field o w bs)))
+reading-exactly w v o fs bs k j = (refl, refl)

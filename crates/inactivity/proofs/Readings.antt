@@ -13,7 +13,9 @@ use Rattle.inactivity.specs.declared.Observed.{Observed}
 use Rattle.inactivity.specs.declared.Reset.{Reset}
 use Rattle.inactivity.specs.declared.ActionAnswer.the-variants as actions
 use Rattle.inactivity.specs.declared.Acted.{Acted}
-use Rattle.inactivity.specs.Inactivity.{refusalOf, clockAnswer, actionAnswer, admission, observed, hasReset, acted}
+use Rattle.inactivity.specs.Inactivity.{refusalOf, clockAnswer, actionAnswer, admission, observed, hasReset, acted, sentFrom}
+use Prim.Native.Nat.{ℕ}
+use Rattle.inactivity.specs.declared.State.the-variants.{Idle, Waiting, SendingUnsolicited, FinalWait}
 
 pub numbers : (refusalOf (Clock ClockBackwards) ≡ 17) × ((e : SpachError) → refusalOf (Wire e) ≡ numberOf e)
 numbers = (refl, λ e. refl)
@@ -35,3 +37,7 @@ resets-say r = refl
 
 pub acted-says : (r : Acted) → acted r ≡ record { outcome = actionAnswer (r .answer); state = r .timer }
 acted-says r = refl
+
+-- the state after an unsolicited status was sent, of all four
+pub sent-from-says : (since b : ℕ) → (sentFrom Idle b ≡ FinalWait b) × (sentFrom (Waiting since) b ≡ Waiting b) × (sentFrom SendingUnsolicited b ≡ FinalWait b) × (sentFrom (FinalWait since) b ≡ FinalWait b)
+sent-from-says since b = (refl, refl, refl, refl)

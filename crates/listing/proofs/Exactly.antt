@@ -25,7 +25,7 @@ use Rattle.receiver.specs.Receiver.{Out, newOf, pushOf, statusAnswer}
 use Rattle.receiver.specs.Demand3.{Push, runs}
 use Rattle.listing.specs.declared.Session.{Session}
 use Rattle.listing.specs.Text.{written, decimalIn, decimalOf, hexOf}
-use Rattle.listing.specs.Line.{answerText, heldText, octetsText, deliveryOf, deliveryText, lineOf, cutLine, messagesLine}
+use Rattle.listing.specs.Line.{answerText, heldText, octetsText, deliveryOf, deliveryText, lineOf, cutLine, messagesLine, firstLine}
 use Rattle.listing.specs.Session.{openOf, pushWith, pushesOf, framesOf, counted, outOf, stepOf, afterOf, linesOf, newSession, lastLines, listingFrom, listingOf}
 use Rattle.listing.proofs.Sessions.{after-runs, after-append, lines-append, frames-append}
 
@@ -232,3 +232,9 @@ step-says x p = refl
 pub written-says : (t : List ℕ) (i x : ℕ) (xs : List ℕ) → (written t i [] ≡ t) × (written t i (x ∷ xs) ≡ written (set t i x) (suc i) xs)
 unfolding written
 written-says t i x xs = (refl, refl)
+
+-- the first line: `frame answer echo map text`, or `identity`
+pub first-says : (n : ℕ)
+    → (firstLine (gives tt) ≡ 102 ∷ 114 ∷ 97 ∷ 109 ∷ 101 ∷ 32 ∷ 97 ∷ 110 ∷ 115 ∷ 119 ∷ 101 ∷ 114 ∷ 32 ∷ 101 ∷ 99 ∷ 104 ∷ 111 ∷ 32 ∷ 109 ∷ 97 ∷ 112 ∷ 32 ∷ 116 ∷ 101 ∷ 120 ∷ 116 ∷ 10 ∷ [])
+    × (firstLine (refuses n) ≡ 105 ∷ 100 ∷ 101 ∷ 110 ∷ 116 ∷ 105 ∷ 116 ∷ 121 ∷ 10 ∷ [])
+first-says n = (refl, refl)

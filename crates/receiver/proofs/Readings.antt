@@ -1,6 +1,6 @@
 -- What each reading of the receiver's answers, map and slots says: every value is told as it is. Assumes nothing.
 use mathlib.Core.Path.{_≡_, refl}
-use mathlib.Core.Bool.{false}
+use mathlib.Core.Bool.{false, true}
 use mathlib.Core.List.{List, [], _∷_, _++_}
 use Prim.Native.Nat.{ℕ, suc, _*_, _/_, _%_, _^_}
 use lib.Bits.{bitOr}
@@ -23,7 +23,7 @@ use Rattle.receiver.specs.declared.Reception.the-variants.{Accepted}
 use Rattle.receiver.specs.declared.StatusAnswer.{StatusAnswer}
 use Rattle.receiver.specs.Demand3.{Push, handed, runs}
 use Rattle.receiver.specs.Map.{bitOf, In, withBit}
-use Rattle.receiver.specs.Receiver.{Out, nothingHeld, blankReceiver, slotAt, putSlot, needed, due, requestOf, gathered, assembled, finish, madeAnswer, pushAnswer, pushed}
+use Rattle.receiver.specs.Receiver.{Out, nothingHeld, blankReceiver, slotAt, putSlot, needed, due, requestOf, gathered, assembled, finish, madeAnswer, pushAnswer, pushed, replacedBy, stored, marked}
 
 pub made-says : (r : Made) → madeAnswer r ≡ (verdictOf (r .verdict), r .receiver)
 made-says r = refl
@@ -71,3 +71,25 @@ pub runs-say : (new : MobileIdentity → Outcome ArqReassembler) (push : ArqReas
     → (handed given returned (gives r) ≡ returned) × (handed given returned (refuses n) ≡ given)
     × (runs new push status s [] ≡ s) × (runs new push status s (p ∷ l) ≡ runs new push status (let o = push s (p .octets) (p .buffer) in handed s (o .receiver) (o .outcome)) l)
 runs-say new push status given returned s r n p l = (refl, refl, refl, refl)
+
+-- what frames leave, field by field: a Begin, a Continue, a delivery
+pub replaced-says : (s : ArqReassembler) (f : ArqFrame) → replacedBy s f ≡ record {
+  identity = s .identity;
+  transaction = record { held = true; channel = f .header .channel; flags = f .header .flags; «partial_echo» = f .header .«partial_echo»; «message_octets» = f .«message_octets»; «begin_data» = f .«begin_data» };
+  slots = replicate 260 0;
+  «received_frames» = 0;
+  delivered = false;
+}
+replaced-says s f = refl
+
+pub stored-says : (s : ArqReassembler) (f : ArqFrame) → stored s f ≡ record {
+  identity = s .identity;
+  transaction = s .transaction;
+  slots = putSlot (s .slots) (f .«frame_number») (f .«continue_data»);
+  «received_frames» = withBit (s .«received_frames») (f .«frame_number»);
+  delivered = s .delivered;
+}
+stored-says s f = refl
+
+pub marked-says : (s : ArqReassembler) → marked s ≡ record { identity = s .identity; transaction = s .transaction; slots = s .slots; «received_frames» = s .«received_frames»; delivered = true }
+marked-says s = refl

@@ -22,7 +22,7 @@ use Rattle.spach.specs.declared.AddressAnswer.the-variants as addresses
 use Rattle.spach.specs.Refusal.{numberOf, Outcome, gives, refuses, refuse, andThen, After, onward, verdictOf}
 use Rattle.spach.specs.Answered.{answered}
 use Rattle.spach.specs.Identity.{identityAnswer}
-use Rattle.spach.specs.Header.{channelOf, headerAAt, addressAt, channelAnswer, headerAAnswer, addressAnswer}
+use Rattle.spach.specs.Header.{channelOf, headerAAt, addressAt, channelAnswer, headerAAnswer, addressAnswer, usageOf}
 
 -- the numbers of the errors
 pub numbers : (numberOf Length ≡ 1) × (numberOf Identity ≡ 2) × (numberOf UnsupportedUsage ≡ 3) × (numberOf UnsupportedFrame ≡ 4) × (numberOf Encrypted ≡ 5) × (numberOf Reserved ≡ 6) × (numberOf Filler ≡ 7)
@@ -98,3 +98,7 @@ module _ (o : ℕ) (bs : List Bool) where
 -- a usage alone, whatever the number
 pub channel-of-exactly : (u : ℕ) → channelOf u ≡ cond (eqb u 3) (gives Arch) (cond (eqb u 4) (gives Smsch) (cond (eqb u 7) (gives Pch) (refuses 3)))
 channel-of-exactly u = refl
+
+-- the usages
+pub usages-say : (usageOf Arch ≡ 3) × (usageOf Smsch ≡ 4) × (usageOf Pch ≡ 7)
+usages-say = (refl, refl, refl)

@@ -1,9 +1,9 @@
 -- What each reading of an answer of the sender says: every value is told as it is. Assumes nothing.
 use mathlib.Core.Path.{_≡_, refl}
-use mathlib.Core.Bool.{Bool}
-use mathlib.Core.List.{[]}
+use mathlib.Core.Bool.{Bool, false, cond, not}
+use mathlib.Core.List.{[], _∷_}
 use mathlib.Core.Option.{none, some}
-use Prim.Native.Nat.{ℕ, _-_, _/_, _%_, _^_}
+use Prim.Native.Nat.{ℕ, _-_, _/_, _%_, _^_, suc}
 use lib.Bits.{bitAnd, bitXor}
 use lib.Dec.{eqb}
 use lib.ListN.{replicate}
@@ -15,10 +15,17 @@ use Rattle.transfer.specs.declared.Confirmation.the-variants.{NotFound, 
 use Rattle.transfer.specs.declared.Event.{Event}
 use Rattle.transfer.specs.declared.FreeEcho.the-variants as echoes
 use Rattle.transfer.specs.declared.NextEvent.the-variants as nexts
-use Rattle.transfer.specs.Queue.{has, firstFrames, continuesOf, frameAlone, without}
-use Rattle.transfer.specs.State.{View, Lent, Out, blankView, says, refusal, goesOn}
+use Rattle.transfer.specs.Queue.{has, firstFrames, continuesOf, frameAlone, without, framesFrom, framesOf}
+use Rattle.transfer.specs.State.{View, Lent, Out, blankView, says, refusal, goesOn, blankTransfer}
 use Rattle.transfer.specs.Echo.{freeAnswer}
-use Rattle.transfer.specs.Numbers.{endingOf, nextOf, confirmationOf, completionOf, addresseeOf}
+use Rattle.transfer.specs.Numbers.{endingOf, nextOf, confirmationOf, completionOf, addresseeOf, refusalOf, failed}
+use Rattle.transfer.specs.declared.Event.the-variants as events
+use Rattle.rach.specs.declared.MobileIdentity.the-variants.{Tmsi20}
+use Rattle.spach.specs.declared.Channel.the-variants.{Arch}
+use Rattle.transfer.specs.declared.Error.{Error}
+use Rattle.transfer.specs.declared.Since.the-variants.{Never, Block}
+use Rattle.transfer.specs.declared.Transfer.{Transfer}
+use Rattle.transfer.specs.Refresh.{blocksSince, ageOf}
 
 -- `pop_event`; what an event says is in Leaves, `endings`
 pub next-says : (nextOf nexts.Nothing ≡ none) × ((e : Event) → nextOf (nexts.Event e) ≡ some (endingOf e))
@@ -72,3 +79,30 @@ pub blank-says : blankView ≡ record {
   «next_token» = 0;
 }
 blank-says = refl
+
+-- a Failed event tells its error's number, whatever the error
+pub failure-says : (completion : ℕ) (e : Error) → endingOf (events.Failed completion e) ≡ failed completion (refusalOf e)
+failure-says completion e = refl
+
+-- where no transfer is found: every number 0, nothing set
+pub blank-transfer-says : blankTransfer ≡ record {
+  parcel = record { identity = Tmsi20 0; completion = 0; «deadline_ms» = 0; owner = record { 0 = 0 }; channel = Arch; octets = 0; frames = 0; n = 0 };
+  generation = record { 0 = 0 };
+  sets = record { queue = 0; «in_flight» = 0; transmitted = 0; observed = 0; «received_status» = false };
+  echo = 0;
+  blocks = record { «last_progress» = Never; «last_frame» = Never; «waiting_since» = Never };
+}
+blank-transfer-says = refl
+
+-- a set as the Rust's list has it: the frame of the lowest bit, if that is set, then those of the other bits
+pub frames-from-say : (n k q : ℕ) → (framesFrom 0 k q ≡ []) × (framesFrom (suc n) k q ≡ cond (eqb (q % 2) 1) (k ∷ framesFrom n (suc k) (q / 2)) (framesFrom n (suc k) (q / 2)))
+frames-from-say n k q = (refl, refl)
+
+-- of 27 bits, from frame 0 on
+pub frames-of-says : (q : ℕ) → framesOf q ≡ framesFrom 27 0 q
+unfolding framesOf
+frames-of-says q = refl
+
+-- an age: blocks since the last frame; 0 of a transfer that is not ready
+pub age-says : (block b : ℕ) (x : Transfer) → (blocksSince block Never ≡ 0) × (blocksSince block (Block b) ≡ block - b) × (ageOf block x ≡ cond (not (eqb (x .sets .queue) 0)) (blocksSince block (x .blocks .«last_frame»)) 0)
+age-says block b x = (refl, refl, refl)
