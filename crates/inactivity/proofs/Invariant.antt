@@ -3,7 +3,7 @@ use mathlib.Core.Path.{_≡_, refl, sym, ap, subst}
 use mathlib.Core.Bool.{Bool, true, false, cond, not, _&&_}
 use Prim.Native.Nat.{ℕ, _≤_}
 use native.Mathlib.Omega.{arith}
-use Rattle.spach.specs.Refusal.{Outcome, gives, refuses, After, onward}
+use Rattle.spach.specs.Refusal.{gives, After, onward}
 use Rattle.inactivity.specs.declared.TransactionToken.{TransactionToken}
 use Rattle.inactivity.specs.declared.InactivityAction.{InactivityAction}
 use Rattle.inactivity.specs.declared.InactivityAction.the-variants.{None, RequestUnsolicitedStatus, Terminate}
@@ -16,11 +16,7 @@ use Rattle.inactivity.specs.declared.ArqInactivity.{ArqInactivity}
 use Rattle.inactivity.proofs.Calls.{ticked-gives, admitted-gives}
 use Rattle.inactivity.specs.Inactivity.{Sound, turn, newOf, ownsOf, renewed, clocked, waiting, inState, enough, ticked, admitted, acts, done, resetOf, observeOf, receivedFrameOf, due, dueOf, elapsed, advanceOf, reported, unsolicitedBy, unsolicitedAt, solicitedBy, solicitedAt, isIdle, sentFrom}
 use Rattle.inactivity.specs.Result.{resultAt}
-
--- a law of what a call leaves holds if it holds of the state as it was and of all that the call goes on to
-pub onward-keeps : {A S : Type 0} (P : S → Type 0) (s : S) (o : Outcome S) (f : S → After A S) → P s → ((t : S) → o ≡ gives t → P (f t .state)) → P (onward s o f .state)
-onward-keeps P s (gives t) f h k = k t refl
-onward-keeps P s (refuses n) f h k = h
+use Rattle.spach.proofs.Outcomes.{onward-cases}
 
 abbrev SoundTurn : Turn → Type 0
 SoundTurn t = Sound (t .timer)
@@ -72,18 +68,18 @@ sound-solicited-at Failed s h = cond-keeps SoundTurn (isIdle (s .state)) (turn N
 
 -- a call that goes on at the moved clock
 ticked-keeps : {A : Type 0} (s : ArqInactivity) (b : ℕ) (f : ArqInactivity → After A ArqInactivity) → ((t : ArqInactivity) → Sound t → Sound (f t .state)) → Sound s → Sound (onward s (ticked s b) f .state)
-ticked-keeps s b f k h = onward-keeps Sound s (ticked s b) f h (λ t e. let q = ticked-gives s b e in k t (subst Sound (sym (q .0)) (sound-clocked s b (q .1) h)))
+ticked-keeps s b f k h = onward-cases Sound s (ticked s b) f h (λ t e. let q = ticked-gives s b e in k t (subst Sound (sym (q .0)) (sound-clocked s b (q .1) h)))
 
 -- what is admitted is sound
 pub sound-admitted : (s : ArqInactivity) (b : ℕ) {t : ArqInactivity} → admitted s b ≡ gives t → Sound s → Sound t
 sound-admitted s b e h = let q = admitted-gives s b e in subst Sound (sym (q .1)) (sound-clocked s b (q .2) h)
 
 pub admitted-keeps : {A : Type 0} (s : ArqInactivity) (b : ℕ) (f : ArqInactivity → After A ArqInactivity) → ((t : ArqInactivity) → Sound t → Sound (f t .state)) → Sound s → Sound (onward s (admitted s b) f .state)
-admitted-keeps s b f k h = onward-keeps Sound s (admitted s b) f h (λ t e. k t (sound-admitted s b e h))
+admitted-keeps s b f k h = onward-cases Sound s (admitted s b) f h (λ t e. k t (sound-admitted s b e h))
 
 pub sound-reset : (s : ArqInactivity) → Sound s → Sound (resetOf s .state)
 unfolding resetOf
-sound-reset s h = onward-keeps Sound s (enough s) (λ t. done (renewed t)) h (λ t e. sound-renewed t)
+sound-reset s h = onward-cases Sound s (enough s) (λ t. done (renewed t)) h (λ t e. sound-renewed t)
 
 pub sound-observe : (s : ArqInactivity) (b : ℕ) → Sound s → Sound (observeOf s b .state)
 unfolding observeOf

@@ -43,10 +43,6 @@ pub zero-refused : answered blankReceiver (newOf (Tmsi20 0)) ≡ answered blankR
 unfolding newOf encodable inRange
 zero-refused = refl
 
-pub open-short : (xs : List ℕ) → length xs < 9 → openOf xs ≡ refuses 2
-unfolding openOf
-open-short xs h = rw (lt-ltb (length xs) 9 h)
-
 pub open-made : (xs : List ℕ) (i : MobileIdentity) → 9 ≤ length xs → acceptIdentity (getD xs 0 0) (field 8 64 (bitsOf xs)) ≡ gives i → openOf xs ≡ newOf i
 unfolding openOf
 open-made xs i h e = rw (le-ltb (length xs) 9 h, e)

@@ -10,7 +10,7 @@ use borrow.Author.Tests.{ltb-false}
 use Rattle.token.specs.Token.{fewerThan}
 use Rattle.rach.specs.declared.MobileIdentity.{MobileIdentity}
 use Rattle.spach.specs.Refusal.{Outcome, gives, refuses, refuse, andThen, After, onward}
-use Rattle.spach.proofs.Outcomes.{passed, then-gives}
+use Rattle.spach.proofs.Outcomes.{passed, then-gives, onward-cases}
 use Rattle.arq.specs.declared.ArqFrame.{ArqFrame}
 use Rattle.arq.specs.Encode.{byKind}
 use Rattle.arq.specs.Decode.{decodeOf}
@@ -36,7 +36,7 @@ use Rattle.inactivity.specs.Inactivity as I
 use Rattle.inactivity.specs.Inactivity.{ownsOf, clocked, enough, ticked, admitted, due, dueOf, solicitedAt, unsolicitedAt, isIdle}
 use Rattle.inactivity.proofs.Calls.{ticked-gives, admitted-gives, enough-gives}
 use Rattle.inactivity.proofs.Invariant as K
-use Rattle.inactivity.proofs.Invariant.{onward-keeps, cond-keeps}
+use Rattle.inactivity.proofs.Invariant.{cond-keeps}
 use Rattle.procedure.specs.declared.StatusKind.{StatusKind}
 use Rattle.procedure.specs.declared.StatusKind.the-variants.{Solicited, Unsolicited}
 use Rattle.procedure.specs.declared.StatusTransmission.{StatusTransmission}
@@ -85,12 +85,12 @@ sound-admits p b {q} e h =
 
 -- a call that goes on at the moved clock
 admits-keeps : {A : Type 0} (p : ArqProcedure) (b : ℕ) (f : ArqProcedure → After A ArqProcedure) → ((q : ArqProcedure) → Sound q → Sound (f q .state)) → Sound p → Sound (onward p (admits p b) f .state)
-admits-keeps p b f k h = onward-keeps Sound p (admits p b) f h (λ q e. k q (sound-admits p b e h))
+admits-keeps p b f k h = onward-cases Sound p (admits p b) f h (λ q e. k q (sound-admits p b e h))
 
 pub sound-reset : (p : ArqProcedure) → Sound p → Sound (resetOf p .state)
 unfolding resetOf
 sound-reset p h =
-    onward-keeps Sound p (andThen (enough (p .inactivity)) (λ t. gives (withTimer p t))) (λ q. says tt (ended q)) h
+    onward-cases Sound p (andThen (enough (p .inactivity)) (λ t. gives (withTimer p t))) (λ q. says tt (ended q)) h
     (λ q e. let a = then-gives (enough (p .inactivity)) (λ t. gives (withTimer p t)) e in
     let z : withTimer p (a .0) ≡ q = let w = a .2 in cc in
     subst (λ r. Sound (ended r)) (sym (ap (withTimer p) (enough-gives (p .inactivity) (a .1) .1)) ∙ z) (sound-ended p h))

@@ -16,7 +16,7 @@ use Rattle.receiver.specs.Map.{bitOf, In, withBit}
 pub none-in : (k : ℕ) → In k 0 → ⊥
 none-in k h = let e : bitOf 0 k ≡ 0 = rw zero-div in omega arith
 
-bit-or : (a b k : ℕ) → bitOf (bitOr a b) k ≡ max (bitOf a k) (bitOf b k)
+pub bit-or : (a b k : ℕ) → bitOf (bitOr a b) k ≡ max (bitOf a k) (bitOf b k)
 bit-or a b k = rw (or-shr a b k) (omega (arith, or-step (a / 2 ^ k) (b / 2 ^ k)))
 
 -- two numbers are equal or differ one way round

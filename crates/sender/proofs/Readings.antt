@@ -6,7 +6,7 @@ use mathlib.Core.Option.{Option, none, some}
 use Prim.Native.Nat.{ℕ}
 use lib.ListN.{take, replicate}
 use Rattle.rach.specs.declared.MobileIdentity.the-variants.{Tmsi20}
-use Rattle.spach.specs.Refusal.{Outcome, gives, refuses, After}
+use Rattle.spach.specs.Refusal.{gives, refuses}
 use Rattle.transfer.specs.declared.Confirmation.{Confirmation}
 use Rattle.transfer.specs.declared.Error.{Error}
 use Rattle.transfer.specs.declared.PreparedFrame.{PreparedFrame}
@@ -22,7 +22,6 @@ use Rattle.sender.specs.declared.FoundAnswer.the-variants as founds
 use Rattle.sender.specs.declared.Moved.{Moved}
 use Rattle.sender.specs.declared.Popped.{Popped}
 use Rattle.sender.specs.declared.Prepared.{Prepared}
-use Rattle.sender.specs.declared.Selection.{Selection}
 use Rattle.sender.specs.declared.Sender.{Sender}
 use Rattle.sender.specs.declared.Sought.{Sought}
 use Rattle.sender.specs.declared.Verdict.the-variants as verdicts

@@ -6,7 +6,7 @@ use native.Mathlib.Omega.{arith}
 use Rattle.spach.specs.declared.SpachError.{SpachError}
 use Rattle.spach.specs.declared.Verdict.{Verdict}
 use Rattle.spach.specs.declared.Verdict.the-variants.{Accepted, Refused}
-use Rattle.spach.specs.Refusal.{numberOf, Outcome, gives, refuses, refuse, andThen, verdictOf}
+use Rattle.spach.specs.Refusal.{numberOf, Outcome, gives, refuses, refuse, andThen, After, onward, verdictOf}
 use Rattle.spach.specs.Answered.{answered}
 
 -- what gives a value past a test: the test does not hold, and the rest gives that value
@@ -32,3 +32,8 @@ answered-gives blank (refuses n) e q = let w = sym (ap verdictOf q) ∙ ap (λ z
 pub answered-refuses : {A : Type 0} (blank : A) (o : Outcome A) {v : Verdict} {a : A} {x : SpachError} → (verdictOf v, a) ≡ answered blank o → v ≡ Refused x → (o ≡ refuses (numberOf x)) × (a ≡ blank)
 answered-refuses blank (gives b) e q = let w = sym (ap verdictOf q) ∙ ap (λ z. z .0) e in let z : _≡_ {A = ℕ} 0 1 = cc in absurd (omega arith)
 answered-refuses blank (refuses n) {x = x} e q = let w : _≡_ {A = Outcome Unit} (refuses (numberOf x)) (refuses n) = sym (ap verdictOf q) ∙ ap (λ z. z .0) e in let z : n ≡ numberOf x = cc in (ap refuses z, ap (λ y. y .1) e)
+
+-- a law of what a call leaves holds if it holds of the state as it was and of all that the call goes on to
+pub onward-cases : {A S : Type 0} (P : S → Type 0) (s : S) (o : Outcome S) (f : S → After A S) → P s → ((t : S) → o ≡ gives t → P (f t .state)) → P (onward s o f .state)
+onward-cases P s (gives t) f h k = k t refl
+onward-cases P s (refuses n) f h k = h

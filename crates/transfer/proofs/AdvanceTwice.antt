@@ -13,7 +13,7 @@ use lib.Pow.{pow-pos, pow-mono}
 use lib.Seq.{set-split}
 use borrow.Author.Tests.{eqb-true, eq-eqb, ne-eqb}
 use Rattle.receiver.specs.Map.{bitOf}
-use Rattle.receiver.proofs.Maps.{all-ones}
+use Rattle.receiver.proofs.Maps.{all-ones, bit-or}
 use Rattle.receiver.proofs.PushCases.{by-bool}
 use Rattle.transfer.specs.declared.Fate.{Fate}
 use Rattle.transfer.specs.declared.Fate.the-variants.{Ends, Restarts, Stays}
@@ -30,7 +30,7 @@ use Rattle.transfer.specs.Transfer.{withBlocks, isSet, orFrom, idle, las
 use Rattle.transfer.specs.Advance.{overdue, fateOf, kept, restart, landed, step, unasked, walk, walked}
 use Rattle.transfer.specs.Prepare.{repeated}
 use Rattle.transfer.specs.Invariant.{All, all-none, all-more, SetsAgree, Sound}
-use Rattle.transfer.proofs.Bitsets.{bit-low, bit-none, bit-and, bit-or, bit-without, has-bit, lacks-bit}
+use Rattle.transfer.proofs.Bitsets.{bit-low, bit-none, bit-and, bit-without, has-bit, lacks-bit}
 use Rattle.transfer.proofs.Frames.{bit-continue, count-continues}
 use Rattle.transfer.proofs.Listed.{all-map, all-head, all-tail, all-at, all-removed, all-back}
 use Rattle.transfer.proofs.Settled.{settle-busy, settle-done, settle-waits}

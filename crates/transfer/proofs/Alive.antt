@@ -11,7 +11,7 @@ use borrow.Author.Tests.{eqb-true, eqb-false, eq-eqb, not-true}
 use Rattle.rach.proofs.Laws.{both}
 use Rattle.arq.proofs.Theorems.{cut-most}
 use Rattle.receiver.specs.Map.{bitOf, withBit}
-use Rattle.receiver.proofs.Maps.{added-lt}
+use Rattle.receiver.proofs.Maps.{added-lt, bit-or}
 use Rattle.transfer.specs.declared.Sets.{Sets}
 use Rattle.transfer.specs.declared.Since.{Since}
 use Rattle.transfer.specs.declared.Since.the-variants.{Never, Block}
@@ -28,7 +28,7 @@ use Rattle.transfer.specs.Status.{shown, observes}
 use Rattle.transfer.specs.Refresh.{refreshed}
 use Rattle.transfer.specs.Invariant.{ByBlock, NotAfter, Accepted, SetsAgree, Timed, Live, Chosen}
 use Rattle.transfer.proofs.Frames.{front-low}
-use Rattle.transfer.proofs.Bitsets.{bit-low, bit-first, bit-and, bit-or, bit-without, bit-added, same-bits, no-bits, bit-none, without-low, has-bit, lacks-bit, bit-has, bit-lacks}
+use Rattle.transfer.proofs.Bitsets.{bit-low, bit-first, bit-and, bit-without, bit-added, same-bits, no-bits, bit-none, without-low, has-bit, lacks-bit, bit-has, bit-lacks}
 
 -- ---- frames
 

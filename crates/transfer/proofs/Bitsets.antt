@@ -6,11 +6,11 @@ use Prim.Native.Nat.{ℕ, zero, suc, _+_, _-_, _*_, _/_, _%_, _^_, _≤_, _<_, m
 use native.Mathlib.Nat.{zero-div, pow-suc, div-eq-of-lt, one-mul, mul-mod-left, pow-succ', div-div-eq-div-mul, div-one}
 use native.Mathlib.Omega.{arith}
 use lib.Dec.{eqb}
-use lib.Bits.{bitAnd, bitOr, bitXor, and-shr, or-shr, xor-shr, and-step, or-step, xor-add-and, and-le-l, xor-lt}
+use lib.Bits.{bitAnd, bitOr, bitXor, and-shr, xor-shr, and-step, xor-add-and, and-le-l, xor-lt}
 use lib.Pow.{pow-lt, pow-mono, pow-add, shl-shr}
 use borrow.Author.Tests.{eqb-true, eqb-false, eq-eqb, ne-eqb}
 use Rattle.receiver.specs.Map.{bitOf, withBit}
-use Rattle.receiver.proofs.Maps.{compared}
+use Rattle.receiver.proofs.Maps.{compared, bit-or}
 use Rattle.transfer.specs.Queue.{has, frameAlone, without}
 
 -- ---- one bit
@@ -36,10 +36,6 @@ bit-next a k = rw (pow-succ' 2 k, ← div-div-eq-div-mul a 2 (2 ^ k))
 -- in both
 pub bit-and : (a b k : ℕ) → bitOf (bitAnd a b) k ≡ min (bitOf a k) (bitOf b k)
 bit-and a b k = rw (and-shr a b k) (omega (arith, and-step (a / 2 ^ k) (b / 2 ^ k)))
-
--- in either
-pub bit-or : (a b k : ℕ) → bitOf (bitOr a b) k ≡ max (bitOf a k) (bitOf b k)
-bit-or a b k = rw (or-shr a b k) (omega (arith, or-step (a / 2 ^ k) (b / 2 ^ k)))
 
 -- in one of both
 pub bit-xor : (a b k : ℕ) → bitOf (bitXor a b) k ≡ (bitOf a k + bitOf b k) % 2

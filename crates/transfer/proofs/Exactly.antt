@@ -6,14 +6,12 @@ use mathlib.Core.Bool.{Bool, true, false, cond, not, _&&_, _||_}
 use mathlib.Core.List.{List, [], _∷_, _++_, map}
 use mathlib.Core.Option.{Option, none, some}
 use Prim.Native.Nat.{ℕ, zero, suc, _+_, _-_, _*_, _≤_, _<_, _^_}
-use native.Mathlib.Nat.{two-pow-succ}
 use native.Mathlib.Omega.{arith}
 use lib.Dec.{eqb, leb, ltb}
 use lib.Bits.{bitAnd, bitOr}
 use lib.Count.{ones}
 use lib.ListN.{length, take, drop, getD, length-append, length-drop, List·getD-append}
 use lib.Seq.{length-take-le, getD-append-add, getD-take, getD-drop}
-use lib.Pow.{pow-pos}
 use borrow.Author.Tests.{eqb-true, eqb-false, eq-eqb, ne-eqb, lt-ltb, le-ltb, ltb-true, ltb-false, leb-true, leb-false, le-leb, not-true, not-false}
 use Rattle.rach.specs.declared.MobileIdentity.{MobileIdentity}
 use Rattle.rach.proofs.Laws.{same-self, same-equal}
@@ -34,7 +32,7 @@ use Rattle.transfer.specs.declared.Transfer.{Transfer}
 use Rattle.transfer.specs.declared.PreparedFrame.{PreparedFrame}
 use Rattle.transfer.specs.declared.Request.{Request}
 use Rattle.transfer.specs.Lists.{position, any, removeAt, pushBack}
-use Rattle.transfer.specs.Queue.{isEmpty, has, firstFrames, continuesOf, frameAlone, front}
+use Rattle.transfer.specs.Queue.{isEmpty, has, continuesOf, frameAlone, front}
 use Rattle.transfer.specs.State.{View, withTransfers, withSelected, says, blankTransfer, ofEcho, unselect}
 use Rattle.transfer.specs.Transfer.{passed, isSet, orFrom, headerOf, idle, lastQueued, doneOf, requeued, waits, settleOf, restartDue, begun}
 use Rattle.transfer.specs.Advance.{restart}
@@ -46,8 +44,8 @@ use Rattle.transfer.specs.Status.{shown, observes}
 use Rattle.transfer.specs.Refresh.{refreshed, queueWaiting, blocksSince, ageOf, oldestFrom, oldest, toFront, oldestFirst, serveOldest}
 use Rattle.transfer.specs.Queries.{canEnqueueOf, radioActiveOf, readyOf, containsOf, pendingOf}
 use Rattle.transfer.specs.Invariant.{All, Some, Sound}
-use Rattle.transfer.proofs.Bitsets.{bit-none, bit-first, below-bits, bit-has, bit-lacks, has-or, has-and, has-alone, has-added, has-without}
-use Rattle.transfer.proofs.Frames.{bit-firsts, bit-continue}
+use Rattle.transfer.proofs.Bitsets.{bit-none, bit-first, below-bits, bit-lacks, has-or, has-and, has-alone, has-added, has-without}
+use Rattle.transfer.proofs.Frames.{has-continues, has-firsts}
 use Rattle.transfer.proofs.Listed.{all-head, some-map, some-all, any-true, any-false, position-found, position-before}
 use Rattle.transfer.proofs.Invariant.{lowest-free}
 use Rattle.transfer.proofs.Calls.{prioritized-kept}
@@ -100,22 +98,6 @@ restart-due-exactly block x = go (passed 64 block (x .blocks .«last_progress»)
     go false q a b = ((λ e. inr (b .0 e)), ⊎-elim (λ h. absurd (true-false {x = false} (a .1 h) refl)) (λ h. b .1 h))
 
 -- ---- settle
-
--- the Continues of n frames are those from 1 to n − 1
-has-continues : (n k : ℕ) → has (continuesOf n) k ≡ (ltb 0 k && ltb k n)
-has-continues zero k = go k
-  where
-    go : (k : ℕ) → has (continuesOf 0) k ≡ (ltb 0 k && ltb k 0)
-    go zero = refl
-    go (suc k) = rw (lt-ltb 0 (suc k) (omega arith), le-ltb (suc k) 0 (omega arith)) (bit-lacks 0 (suc k) (below-bits 0 0 (suc k) (omega arith) (omega arith)))
-has-continues (suc n) zero =
-    let two : 2 ^ suc n ≡ 2 ^ n + 2 ^ n = two-pow-succ n in
-    bit-lacks (continuesOf (suc n)) 0 (bit-first (continuesOf (suc n)) ∙ omega (arith, pow-pos n))
-has-continues (suc n) (suc k) = go (ltb (suc k) (suc n)) refl
-  where
-    go : (t : Bool) → ltb (suc k) (suc n) ≡ t → has (continuesOf (suc n)) (suc k) ≡ (ltb 0 (suc k) && t)
-    go true e = rw (lt-ltb 0 (suc k) (omega arith)) (bit-has (continuesOf (suc n)) (suc k) (bit-continue (suc n) k (ltb-true (suc k) (suc n) e)))
-    go false e = rw (lt-ltb 0 (suc k) (omega arith)) (bit-lacks (continuesOf (suc n)) (suc k) (below-bits (suc n) (continuesOf (suc n)) (suc k) (omega (arith, pow-pos (suc n))) (ltb-false (suc k) (suc n) e)))
 
 -- parcel, generation and echo stay
 abbrev pub SameOrder : (x y : Transfer) → Type 0
@@ -185,13 +167,6 @@ waits-exactly block x q f s =
     go (Block b) e = inr (b, refl, e)
 
 -- ---- a transfer begins, and begins again
-
-has-firsts : (n k : ℕ) → has (firstFrames n) k ≡ ltb k n
-has-firsts n k = go (ltb k n) refl
-  where
-    go : (t : Bool) → ltb k n ≡ t → has (firstFrames n) k ≡ t
-    go true e = bit-has (firstFrames n) k (bit-firsts n k (ltb-true k n e))
-    go false e = bit-lacks (firstFrames n) k (below-bits n (firstFrames n) k (omega (arith, pow-pos n)) (ltb-false k n e))
 
 -- under this echo and generation every frame is queued, and nothing is left of before: so an age counts from a frame under the present echo
 pub begins-exactly : (p : Parcel) (echo generation : ℕ) → let y = begun p echo generation in

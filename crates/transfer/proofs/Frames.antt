@@ -1,14 +1,17 @@
--- The Continues of n frames, how many they are, and how low the front of a set is. Assumes nothing.
+-- The first n frames and the Continues among them, how many they are, and how low the front of a set is. Assumes nothing.
 use mathlib.Core.Path.{_≡_, refl, sym, ap, _∙_}
+use mathlib.Core.Bool.{Bool, true, false, _&&_}
 use Prim.Native.Nat.{ℕ, zero, suc, _+_, _-_, _≤_, _<_, _/_, _%_, _^_}
 use native.Mathlib.Nat.{two-pow-succ}
 use native.Mathlib.Omega.{arith}
 use lib.Count.{ones, ones-step, trailingZeros, under}
+use lib.Dec.{ltb}
 use lib.Pow.{pow-pos}
+use borrow.Author.Tests.{lt-ltb, le-ltb, ltb-true, ltb-false}
 use Rattle.receiver.specs.Map.{bitOf}
 use Rattle.receiver.proofs.Maps.{ones-all, all-ones}
-use Rattle.transfer.specs.Queue.{firstFrames, continuesOf, front}
-use Rattle.transfer.proofs.Bitsets.{bit-first, bit-next}
+use Rattle.transfer.specs.Queue.{has, firstFrames, continuesOf, front}
+use Rattle.transfer.proofs.Bitsets.{bit-first, bit-next, below-bits, bit-has, bit-lacks}
 
 -- all but frame 0, the odd one
 pub all-but-first : (n : ℕ) → firstFrames n - firstFrames n % 2 ≡ continuesOf n
@@ -69,3 +72,27 @@ trailing-low (suc n) k q p h = low-digit (q % 2) n k q refl p h (λ m a b. trail
 -- the front of a set of frames below k is below k
 pub front-low : (k q : ℕ) → 0 < q → q < 2 ^ k → front q < k
 front-low k q p h = trailing-low 32 k q p h
+
+-- the Continues of n frames are those from 1 to n − 1
+pub has-continues : (n k : ℕ) → has (continuesOf n) k ≡ (ltb 0 k && ltb k n)
+has-continues zero k = go k
+  where
+    go : (k : ℕ) → has (continuesOf 0) k ≡ (ltb 0 k && ltb k 0)
+    go zero = refl
+    go (suc k) = rw (lt-ltb 0 (suc k) (omega arith), le-ltb (suc k) 0 (omega arith)) (bit-lacks 0 (suc k) (below-bits 0 0 (suc k) (omega arith) (omega arith)))
+has-continues (suc n) zero =
+    let two : 2 ^ suc n ≡ 2 ^ n + 2 ^ n = two-pow-succ n in
+    bit-lacks (continuesOf (suc n)) 0 (bit-first (continuesOf (suc n)) ∙ omega (arith, pow-pos n))
+has-continues (suc n) (suc k) = go (ltb (suc k) (suc n)) refl
+  where
+    go : (t : Bool) → ltb (suc k) (suc n) ≡ t → has (continuesOf (suc n)) (suc k) ≡ (ltb 0 (suc k) && t)
+    go true e = rw (lt-ltb 0 (suc k) (omega arith)) (bit-has (continuesOf (suc n)) (suc k) (bit-continue (suc n) k (ltb-true (suc k) (suc n) e)))
+    go false e = rw (lt-ltb 0 (suc k) (omega arith)) (bit-lacks (continuesOf (suc n)) (suc k) (below-bits (suc n) (continuesOf (suc n)) (suc k) (omega (arith, pow-pos (suc n))) (ltb-false (suc k) (suc n) e)))
+
+-- and all n are those below n
+pub has-firsts : (n k : ℕ) → has (firstFrames n) k ≡ ltb k n
+has-firsts n k = go (ltb k n) refl
+  where
+    go : (t : Bool) → ltb k n ≡ t → has (firstFrames n) k ≡ t
+    go true e = bit-has (firstFrames n) k (bit-firsts n k (ltb-true k n e))
+    go false e = bit-lacks (firstFrames n) k (below-bits n (firstFrames n) k (omega (arith, pow-pos n)) (ltb-false k n e))

@@ -17,7 +17,7 @@ use Rattle.rach.specs.Identity.{typeOf, valueOf, same, encodable}
 use Rattle.rach.specs.declared.MobileIdentity.{MobileIdentity}
 use Rattle.rach.proofs.Laws.{both, same-equal}
 use Rattle.spach.specs.Header.{usageOf}
-use Rattle.spach.specs.Refusal.{Outcome, gives, refuses, After, onward}
+use Rattle.spach.specs.Refusal.{gives, After}
 use Rattle.spach.proofs.Outcomes.{passed, then-gives}
 use Rattle.arq.specs.declared.ArqHeader.{ArqHeader}
 use Rattle.arq.specs.Cut.{continues, countOf}
@@ -461,11 +461,6 @@ status-cases P v s h k =
   where
     shown : ℕ → Transfer → View
     shown place x = putAt v place (observes (s .«received_frames») (v .clock .«last_block») x)
-
--- a call that goes on with what was let through, or refuses and leaves the state
-pub onward-cases : {A S : Type 0} (P : S → Type 0) (s : S) (o : Outcome S) (f : S → After A S) → P s → ((t : S) → o ≡ gives t → P (f t .state)) → P (onward s o f .state)
-onward-cases P s (gives t) f h k = k t refl
-onward-cases P s (refuses n) f h k = h
 
 -- neither of two tests holds
 pub neither : (a b : Bool) → (a || b) ≡ false → (a ≡ false) × (b ≡ false)

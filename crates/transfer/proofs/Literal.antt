@@ -1,19 +1,18 @@
 -- The Rust's `enqueue`, `advance` and the calls that make it, with every step as it is written, are the definitions. Assumes nothing.
-use mathlib.Core.Logic.{_⊎_, inl, inr, ⊎-elim}
+use mathlib.Core.Logic.{_⊎_, ⊎-elim}
 use mathlib.Core.Path.{_≡_, refl, sym, ap, ap₂, subst, _∙_}
 use mathlib.Core.Bool.{Bool, true, false, cond, not, _&&_, _||_, true≢false, or-false, and-false}
 use mathlib.Core.List.{List, [], _∷_, map, foldl}
 use mathlib.Core.Option.{Option, none, some}
 use Prim.Native.Nat.{ℕ, zero, suc, _+_, _-_, _/_, _%_, _^_, _≤_, _<_}
-use native.Mathlib.Nat.{two-pow-succ}
 use native.Mathlib.Omega.{arith}
 use lib.Bits.{bitAnd, bitOr, or-lt}
 use lib.Count.{ones}
 use lib.Dec.{eqb, leb, ltb}
 use lib.ListN.{length, take, drop, getD, set, length-set}
-use lib.Pow.{field, mod-mod-pow, pow-pos, pow-mono}
+use lib.Pow.{field, mod-mod-pow, pow-mono}
 use lib.Seq.{set-split}
-use borrow.Author.Tests.{eqb-true, eqb-false, eq-eqb, ne-eqb, le-leb, lt-leb, le-ltb, ltb-true, ltb-false}
+use borrow.Author.Tests.{eqb-true, eqb-false, eq-eqb, ne-eqb, le-leb, lt-leb, le-ltb, ltb-true, ltb-false, lt-ltb}
 use Rattle.token.specs.Token.{stop}
 use Rattle.rach.proofs.Laws.{both}
 use Rattle.rach.specs.declared.MobileIdentity.{MobileIdentity}
@@ -50,7 +49,7 @@ use Rattle.transfer.specs.Invariant.{All, SetsAgree, Live, Sound}
 use Rattle.transfer.proofs.Asked.{any-found}
 use Rattle.transfer.proofs.Bitsets.{bit-none, bit-first, bit-next, below-bits, has-bit, lacks-bit, bit-has, bit-lacks, has-or, has-and, has-without, has-added, same-frames}
 use Rattle.transfer.proofs.EchoSearch.{free-now}
-use Rattle.transfer.proofs.Frames.{bit-continue, count-continues, continues-counted}
+use Rattle.transfer.proofs.Frames.{count-continues, continues-counted, has-continues}
 use Rattle.transfer.proofs.Listed.{all-map, all-head, all-tail, all-in, all-at, all-removed, position-found}
 use Rattle.transfer.proofs.Alive.{altered, frames-live, idle-empty, ready-some, settled-live, confirmed-live, observed-live, settled-parcel}
 use Rattle.transfer.proofs.Invariant.{ticked-gives, admitted-gives, admitted-kept}
@@ -118,14 +117,6 @@ where-passes (suc n) test q k h =
     (turn-own (test n) (setWhere n test q) n ∙ ap (λ (b : Bool). b || test n) (where-other n test q (suc n) (λ i l z. omega arith)))) (λ l. absurd (omega arith)))
     (compared k n)
 
--- the Continues of n frames are those after the Begin
-has-continues : (n k : ℕ) → has (continuesOf n) (suc k) ≡ ltb k (n - 1)
-has-continues n k = go (by-bool (ltb k (n - 1)))
-  where
-    go : (ltb k (n - 1) ≡ true) ⊎ (ltb k (n - 1) ≡ false) → has (continuesOf n) (suc k) ≡ ltb k (n - 1)
-    go (inl e) = bit-has (continuesOf n) (suc k) (bit-continue n k (omega (arith, ltb-true k (n - 1) e))) ∙ sym e
-    go (inr e) = bit-lacks (continuesOf n) (suc k) (below-bits n (continuesOf n) (suc k) (omega (arith, pow-pos n)) (omega (arith, ltb-false k (n - 1) e))) ∙ sym e
-
 -- `settle`'s loop queues the Continues that are not observed
 requeued-frames : (n o : ℕ) → setWhere (n - 1) (λ index. not (has o (suc index))) 0 ≡ without (continuesOf n) o
 requeued-frames n o = same-frames (setWhere (n - 1) test 0) (without (continuesOf n) o) frame
@@ -136,19 +127,16 @@ requeued-frames n o = same-frames (setWhere (n - 1) test 0) (without (continuesO
     nothing : (k : ℕ) → has 0 k ≡ false
     nothing k = bit-lacks 0 k (bit-none k)
 
-    even : (n : ℕ) → continuesOf n % 2 ≡ 0
-    even zero = refl
-    even (suc n) = let two : 2 ^ suc n ≡ 2 ^ n + 2 ^ n = two-pow-succ n in omega (arith, pow-pos n)
+    split : (k : ℕ) → (b : Bool) → ltb (suc k) n ≡ b → has (setWhere (n - 1) test 0) (suc k) ≡ (b && not (has o (suc k)))
+    split k true e = where-passes (n - 1) test 0 k (omega (arith, ltb-true (suc k) n e)) ∙ ap (λ (b : Bool). b || test k) (nothing (suc k))
+    split k false e = where-other (n - 1) test 0 (suc k) (λ i l z. omega (arith, ltb-false (suc k) n e)) ∙ nothing (suc k)
 
-    split : (k : ℕ) → (b : Bool) → ltb k (n - 1) ≡ b → has (setWhere (n - 1) test 0) (suc k) ≡ (b && not (has o (suc k)))
-    split k true e = where-passes (n - 1) test 0 k (ltb-true k (n - 1) e) ∙ ap (λ (b : Bool). b || test k) (nothing (suc k))
-    split k false e = where-other (n - 1) test 0 (suc k) (λ i l z. omega (arith, ltb-false k (n - 1) e)) ∙ nothing (suc k)
+    continue : (k : ℕ) → has (without (continuesOf n) o) k ≡ ((ltb 0 k && ltb k n) && not (has o k))
+    continue k = has-without (continuesOf n) o k ∙ ap (λ (b : Bool). b && not (has o k)) (has-continues n k)
 
     frame : (k : ℕ) → has (setWhere (n - 1) test 0) k ≡ has (without (continuesOf n) o) k
-    frame zero =
-        where-other (n - 1) test 0 0 (λ i l e. omega arith)
-        ∙ (nothing 0 ∙ sym (has-without (continuesOf n) o 0 ∙ ap (λ (b : Bool). b && not (has o 0)) (bit-lacks (continuesOf n) 0 (bit-first (continuesOf n) ∙ even n))))
-    frame (suc k) = split k (ltb k (n - 1)) refl ∙ sym (has-without (continuesOf n) o (suc k) ∙ ap (λ (b : Bool). b && not (has o (suc k))) (has-continues n k))
+    frame zero = where-other (n - 1) test 0 0 (λ i l e. omega arith) ∙ (nothing 0 ∙ sym (continue 0))
+    frame (suc k) = split k (ltb (suc k) n) refl ∙ sym (continue (suc k) ∙ ap (λ (b : Bool). (b && ltb (suc k) n) && not (has o (suc k))) (lt-ltb 0 (suc k) (omega arith)))
 
 -- an idle transfer's queue is empty
 requeued-literal : (x : Transfer) → idle x ≡ true → requeuedLiteral x ≡ requeued x
@@ -432,16 +420,16 @@ entering-same v m block now next f h k =
     (λ w e. let sound = admitted-kept v m block now e h in unmarked-walks w next (sound-round w sound) (sound-proper w sound) ∙ k w e)
 
 -- searches that go on alike with what is found, which passes the test
-seek-found : {X : Type 0} (test : Transfer → Bool) (l : List Transfer) (nothing : X) (f g : ℕ → Transfer → X)
+seek-passing : {X : Type 0} (test : Transfer → Bool) (l : List Transfer) (nothing : X) (f g : ℕ → Transfer → X)
     → ((i : ℕ) → i < length l → test (getD l i blankTransfer) ≡ true → f i (getD l i blankTransfer) ≡ g i (getD l i blankTransfer)) → seek test l nothing f ≡ seek test l nothing g
-seek-found test l nothing f g h =
+seek-passing test l nothing f g h =
     let i = position test l in
     let x = getD l i blankTransfer in
     cond-same (ltb i (length l)) (f i x) (g i x) nothing (λ e. let lt = ltb-true i (length l) e in h i lt (position-found test blankTransfer l lt))
 
 -- and whatever is found
 seek-same : {X : Type 0} (test : Transfer → Bool) (l : List Transfer) (nothing : X) (f g : ℕ → Transfer → X) → ((i : ℕ) → i < length l → f i (getD l i blankTransfer) ≡ g i (getD l i blankTransfer)) → seek test l nothing f ≡ seek test l nothing g
-seek-same test l nothing f g h = seek-found test l nothing f g (λ i lt t. h i lt)
+seek-same test l nothing f g h = seek-passing test l nothing f g (λ i lt t. h i lt)
 
 -- calls that go on alike and write to the lent memory
 goes-on-same : {A B : Type 0} (v : View) (m : Lent) (o : Outcome A) (f g : A → Out B) → ((a : A) → o ≡ gives a → f a ≡ g a) → goesOn v m o f ≡ goesOn v m o g
@@ -564,7 +552,7 @@ choose-literal v octets h = go (v .selected)
     go : (s : Option PreparedFrame) → chooseLiteral v octets s ≡ chooseFrom v octets s
     go (some f) = refl
     go none =
-        seek-found isReady (v .transfers) (says none v) (λ place x. frontLiteral v x octets (framesOf (x .sets .queue))) (λ place x. selects v x (frontOf x octets)) (λ i lt t.
+        seek-passing isReady (v .transfers) (says none v) (λ place x. frontLiteral v x octets (framesOf (x .sets .queue))) (λ place x. selects v x (frontOf x octets)) (λ i lt t.
         let x = getD (v .transfers) i blankTransfer in
         let live = all-at (v .transfers) i blankTransfer lt (h .transfers) in
         front-literal v x octets t (live .sets) (frames-live x live .1))

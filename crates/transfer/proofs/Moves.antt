@@ -15,7 +15,7 @@ use borrow.Author.Tests.{ltb-true, ltb-false}
 use Rattle.token.specs.Token.{stop, numberAfter}
 use Rattle.rach.proofs.Laws.{both}
 use Rattle.spach.specs.Refusal.{Outcome, gives, refuses, refuse, After, onward}
-use Rattle.spach.proofs.Outcomes.{passed}
+use Rattle.spach.proofs.Outcomes.{passed, onward-cases}
 use Rattle.arq.specs.declared.PackedFrame.{PackedFrame}
 use Rattle.receiver.specs.declared.ArqStatus.{ArqStatus}
 use Rattle.transfer.specs.declared.Error.the-variants.{EchoExhausted}
@@ -46,7 +46,7 @@ use Rattle.transfer.specs.History.{Call, Enqueue, Advance, Prepare, Inte
 use Rattle.transfer.specs.Invariant.{All, all-none, all-more, Some, Chosen, Selected, Sound}
 use Rattle.transfer.proofs.Listed.{all-map, all-head, all-tail, all-one, all-rest, all-in, all-at, all-removed, all-back, some-one}
 use Rattle.transfer.proofs.Alive.{settled-parcel}
-use Rattle.transfer.proofs.Invariant.{Keeps, keeps-among, self-keeps, settled-keeps, repeated-keeps, refreshed-keeps, confirmed-keeps, observed-keeps, in-flight-keeps, clock-kept, selected-kept, ended-kept, placed-kept, token-kept, events-kept, Welcomes, welcomes, welcomes-instead, welcomed-kept, cond-cases, seek-cases, prioritize-cases, submit-cases, confirm-cases, status-cases, onward-cases, neither, ticked-gives, admitted-gives, admitted-kept, admitted-tokens, Passes, grant-passes}
+use Rattle.transfer.proofs.Invariant.{Keeps, keeps-among, self-keeps, settled-keeps, repeated-keeps, refreshed-keeps, confirmed-keeps, observed-keeps, in-flight-keeps, clock-kept, selected-kept, ended-kept, placed-kept, token-kept, events-kept, Welcomes, welcomes, welcomes-instead, welcomed-kept, cond-cases, seek-cases, prioritize-cases, submit-cases, confirm-cases, status-cases, neither, ticked-gives, admitted-gives, admitted-kept, admitted-tokens, Passes, grant-passes}
 use Rattle.transfer.proofs.Walked.{begun-kept, fate-cases, behind, step-near, transfersOf, unasked-all, asked-for-all, long, walked-near}
 use Rattle.transfer.proofs.AdvanceTwice.{Rests, rests-stays, walked-rests}
 
@@ -144,7 +144,7 @@ out-cases P v m (gives a) f h k = k a refl
 out-cases P v m (refuses n) f h k = h n
 
 -- what is let through has a store that is long enough
-admitted-long : (v : View) (m : Lent) (block now : ℕ) {w : View} → admitted v m block now ≡ gives w → 32640 ≤ length (m .octets)
+pub admitted-long : (v : View) (m : Lent) (block now : ℕ) {w : View} → admitted v m block now ≡ gives w → 32640 ≤ length (m .octets)
 admitted-long v m block now e = ltb-false (length (m .octets)) 32640 (neither (ltb (length (m .octets)) 32640) (ltb (length (m .words)) 3456) (passed (short m) 16 _ e .0) .0)
 
 module _ {octets : List ℕ} {first : ℕ} where

@@ -1,7 +1,7 @@
 -- A queue as a number beside the Rust's list of frames: its front, its length, frames put at its back, all frames. Assumes nothing.
 use mathlib.Core.Path.{_≡_, refl, sym, ap, _∙_}
 use mathlib.Core.Logic.{_⊎_, inl, inr}
-use mathlib.Core.Bool.{Bool, true, false, cond, _||_}
+use mathlib.Core.Bool.{Bool, true, cond, _||_}
 use mathlib.Core.List.{List, _∷_}
 use Prim.Native.Nat.{ℕ, zero, suc, _+_, _-_, _/_, _%_, _^_, _≤_, _<_}
 use native.Mathlib.Nat.{two-pow-succ, zero-add}
@@ -9,17 +9,15 @@ use native.Mathlib.Omega.{arith}
 use lib.Count.{ones, trailingZeros, under, ones-step}
 use lib.Dec.{eqb, ltb}
 use lib.ListN.{length}
-use lib.Pow.{pow-pos}
-use borrow.Author.Tests.{eq-eqb, ne-eqb, lt-ltb, le-ltb, ltb-true, ltb-false}
+use borrow.Author.Tests.{eq-eqb, ne-eqb, lt-ltb, le-ltb}
 use Rattle.receiver.specs.Map.{withBit}
 use Rattle.receiver.proofs.Maps.{compared}
-use Rattle.receiver.proofs.PushCases.{by-bool}
 use Rattle.transfer.specs.declared.Transfer.{Transfer}
 use Rattle.transfer.specs.Queue.{has, firstFrames, frameAlone, front, oneLeft, framesFrom, framesOf}
 use Rattle.transfer.specs.Transfer.{queued, idle, lastQueued}
 use Rattle.transfer.specs.Literal.{collected, lastPushed}
-use Rattle.transfer.proofs.Bitsets.{bit-none, below-bits, bit-has, bit-lacks, has-alone, has-added, same-frames}
-use Rattle.transfer.proofs.Frames.{bit-firsts}
+use Rattle.transfer.proofs.Bitsets.{bit-none, bit-lacks, has-alone, has-added, same-frames}
+use Rattle.transfer.proofs.Frames.{has-firsts}
 use Rattle.transfer.proofs.Alive.{idle-empty}
 
 -- ---- the list of a queue
@@ -86,8 +84,4 @@ collected-has (suc n) k = has-added (collected n) n k ∙ (ap (λ (b : Bool). b 
 
 -- all frames are put in
 pub collected-all : (n : ℕ) → collected n ≡ firstFrames n
-collected-all n = same-frames (collected n) (firstFrames n) (λ k. collected-has n k ∙ go k (by-bool (ltb k n)))
-  where
-    go : (k : ℕ) → (ltb k n ≡ true) ⊎ (ltb k n ≡ false) → ltb k n ≡ has (firstFrames n) k
-    go k (inl e) = e ∙ sym (bit-has (firstFrames n) k (bit-firsts n k (ltb-true k n e)))
-    go k (inr e) = e ∙ sym (bit-lacks (firstFrames n) k (below-bits n (firstFrames n) k (omega (arith, pow-pos n)) (ltb-false k n e)))
+collected-all n = same-frames (collected n) (firstFrames n) (λ k. collected-has n k ∙ sym (has-firsts n k))

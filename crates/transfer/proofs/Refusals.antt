@@ -4,7 +4,7 @@ use mathlib.Core.Logic.{_≢_, _⊎_, inl, inr, ⊎-elim, _↔_}
 use mathlib.Core.Bool.{Bool, true, false, cond, not, _&&_, _||_}
 use mathlib.Core.List.{List, [], _∷_, _++_, foldl}
 use mathlib.Core.Option.{Option, none, some}
-use Prim.Native.Nat.{ℕ, zero, suc, _+_, _*_, _≤_, _<_}
+use Prim.Native.Nat.{ℕ, suc, _+_, _*_, _≤_, _<_}
 use native.Mathlib.Omega.{arith}
 use lib.Dec.{eqb, ltb}
 use lib.ListN.{length, drop, getD, length-set, length-drop}
@@ -16,7 +16,7 @@ use Rattle.rach.specs.declared.MobileIdentity.{MobileIdentity}
 use Rattle.rach.proofs.Laws.{both}
 use Rattle.spach.specs.Header.{usageOf}
 use Rattle.spach.specs.Refusal.{Outcome, gives, refuses, refuse, andThen, After, onward}
-use Rattle.spach.proofs.Outcomes.{passed, then-gives}
+use Rattle.spach.proofs.Outcomes.{then-gives}
 use Rattle.arq.specs.declared.ArqHeader.{ArqHeader}
 use Rattle.arq.specs.declared.ArqFrame.{ArqFrame}
 use Rattle.arq.specs.declared.PackedFrame.{PackedFrame}
@@ -48,9 +48,10 @@ use Rattle.transfer.proofs.Alive.{ready-some}
 use Rattle.transfer.proofs.EchoSearch.{none-free}
 use Rattle.transfer.proofs.Frames.{front-low}
 use Rattle.transfer.proofs.Listed.{all-at, some-map, some-all, some-removed, pairs-at, length-back}
-use Rattle.transfer.proofs.Invariant.{different-sym, seek-cases, prioritize-cases, submit-cases, neither}
+use Rattle.transfer.proofs.Invariant.{different-sym, seek-cases, prioritize-cases, submit-cases}
 use Rattle.transfer.proofs.Walked.{fate-cases}
 use Rattle.transfer.proofs.Calls.{admitted-walked-kept, prioritized-kept, restart-fails-exactly}
+use Rattle.transfer.proofs.Moves.{admitted-long}
 
 -- ---- what is written to the lent memory
 
@@ -238,12 +239,6 @@ admitted-refuses v m block now {n} = go (short m) (fewerThan 512 (v .«next_toke
     go false false true e = inr (inr (number e))
     go false false false e = let z : _≡_ {A = ℕ} 0 1 = cc in absurd (omega arith)
 
--- a store that is let through is not short
-pub admitted-octets : (v : View) (m : Lent) (block now : ℕ) {w : View} → admitted v m block now ≡ gives w → 32640 ≤ length (m .octets)
-admitted-octets v m block now e =
-    let p = passed (short m) 16 (refuse (fewerThan 512 (v .«next_token»)) 18 (ticked v block now)) e in
-    ltb-false (length (m .octets)) 32640 (neither (ltb (length (m .octets)) 32640) (ltb (length (m .words)) 3456) (p .0) .0)
-
 onward-answers : (v : View) (o : Outcome View) (f : View → After (Option PreparedFrame) View) (n : ℕ) → ((k : ℕ) → o ≡ refuses k → AtFirst k) → ((w : View) → o ≡ gives w → Unrefused (f w)) → onward v o f .outcome ≡ refuses n → AtFirst n
 onward-answers v (gives w) f n a b e = absurd (b w refl n e)
 onward-answers v (refuses k) f n a b e = let z : k ≡ n = number e in subst AtFirst z (a k refl)
@@ -256,7 +251,7 @@ pub prepare-answers : (v : View) (m : Lent) (block now n : ℕ) → Sound v → 
 unfolding prepareOf
 prepare-answers v m block now n h =
     onward-answers v (admitted v m block now) (λ w. choose (walked w) (m .octets)) n (λ k e. admitted-refuses v m block now e)
-    (λ w e. choose-never (walked w) (m .octets) (admitted-octets v m block now e) (admitted-walked-kept v m block now e h))
+    (λ w e. choose-never (walked w) (m .octets) (admitted-long v m block now e) (admitted-walked-kept v m block now e h))
 
 -- so `prepare`, at a clock that is let through, after its `advance`
 pub prepare-none-exactly : (v : View) (m : Lent) (block now : ℕ) (w : View) → Sound v → admitted v m block now ≡ gives w
@@ -264,14 +259,14 @@ pub prepare-none-exactly : (v : View) (m : Lent) (block now : ℕ) (w : View) �
 unfolding prepareOf
 prepare-none-exactly v m block now w h e =
     rw (ap (λ (o : Outcome View). onward v o (λ u. choose (walked u) (m .octets)) .outcome) e)
-    (choose-none-exactly (walked w) (m .octets) (admitted-octets v m block now e) (admitted-walked-kept v m block now e h))
+    (choose-none-exactly (walked w) (m .octets) (admitted-long v m block now e) (admitted-walked-kept v m block now e h))
 
 -- `prepare_prioritized` refuses these alone, too
 pub prepare-prioritized-answers : (v : View) (m : Lent) (echo block now n : ℕ) → Sound v → preparePrioritizedOf v m echo block now .outcome ≡ refuses n → (n ≡ 16) ⊎ ((n ≡ 18) ⊎ (n ≡ 22))
 unfolding preparePrioritizedOf
 prepare-prioritized-answers v m echo block now n h =
     onward-answers v (admitted v m block now) (λ w. prioritizeAt (walked w) (m .octets) echo) n (λ k e. admitted-refuses v m block now e)
-    (λ w e. prioritize-never (walked w) (m .octets) echo (admitted-octets v m block now e) (admitted-walked-kept v m block now e h))
+    (λ w e. prioritize-never (walked w) (m .octets) echo (admitted-long v m block now e) (admitted-walked-kept v m block now e h))
 
 -- ---- enqueue
 

@@ -2,7 +2,8 @@
 use mathlib.Core.Path.{sym, ap, _∙_}
 use Rattle.spach.specs.Answered.{answered}
 use Rattle.receiver.specs.Receiver.{blankReceiver}
-use Rattle.listing.proofs.Opened.{zero-refused, open-short, open-made, open-refused, accepted}
+use Rattle.listing.proofs.Exactly.{open-short}
+use Rattle.listing.proofs.Opened.{zero-refused, open-made, open-refused, accepted}
 use borrow.Author.Needs.{needs}
 use Rattle.listing.proofs.open.Statement.{statement}
 use Rattle.listing.proofs.open.Tie as tie
