@@ -11,6 +11,7 @@ FALLS = {
     "beginData": "begin_data_lem", "continueData": "continue_data_lem", "messageOctets": "message_octets_lem",
     "inFlight": "in_flight_lem", "beginBits": "begin_bits_lem",
     "goes_on": "goes_on_lem", "let_through": "let_through_lem", "such_in": "such_in_lem", "address_on": "address_on_lem",
+    "header-on": "header_on_lem",
     "CancelAll": "CancelAll", "CancelTransaction": "CancelTransaction",
 }
 # the library's functions that a lemma's name may join
@@ -20,7 +21,8 @@ TOKEN = re.compile(r"[^\s(){}.,;:\[\]λ⌜⌝|`\"]+")
 
 
 def snake(n):
-    return re.sub(r"(?<=[a-z0-9])([A-Z])", lambda m: "_" + m.group(1).lower(), n)
+    n = re.sub(r"(?<=[a-z0-9])([A-Z])(?=[A-Z][a-z])", r"\1_", n)
+    return re.sub(r"(?<=[a-z0-9])([A-Z])", r"_\1", n).lower() if n[:1].islower() else n
 
 
 def small_camel(n):

@@ -15,7 +15,7 @@ use Rattle.spach.specs.declared.HeaderA.{HeaderA}
 use Rattle.spach.specs.declared.Address.{Address}
 use Rattle.spach.specs.Refusal.{Outcome, gives, refuses, and_then}
 use Rattle.spach.specs.Answered.{answered}
-use Rattle.spach.specs.Header.{usage_of, is_set, header_aAt, address_at}
+use Rattle.spach.specs.Header.{usage_of, is_set, header_a_at, address_at}
 use Rattle.spach.proofs.Given.{address_given}
 use Rattle.arq.specs.declared.ArqHeader.{ArqHeader}
 use Rattle.arq.specs.declared.ArqFrame.{ArqFrame}
@@ -90,5 +90,5 @@ module _ (xs : List ℕ) where
     pub decode_padding : (x ≡ 0 → ⊥) → refuses 15 ≡ decode_of xs
     decode_padding h = rw (decode_parts xs, eq-eqb (length xs) 14 n, ← ex, ne_eqb x 0 h)
 
-    pub decode-header : {o : Outcome HeaderA} → x ≡ 0 → o ≡ header_aAt 0 (bits_of xs) → and_then o (λ a. decode_usage a (bits_of xs)) ≡ decode_of xs
+    pub decode-header : {o : Outcome HeaderA} → x ≡ 0 → o ≡ header_a_at 0 (bits_of xs) → and_then o (λ a. decode_usage a (bits_of xs)) ≡ decode_of xs
     decode-header h eo = rw (decode_parts xs, eq-eqb (length xs) 14 n, ← ex, eq-eqb x 0 h, ← eo)

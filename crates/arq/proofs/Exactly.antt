@@ -22,7 +22,7 @@ use Rattle.spach.specs.declared.Channel.TheVariants.{Arch, Smsch, Pch}
 use Rattle.spach.specs.declared.HeaderA.{HeaderA}
 use Rattle.spach.specs.declared.Address.{Address}
 use Rattle.spach.specs.Refusal.{Outcome, gives, refuses, refuse, and_then}
-use Rattle.spach.specs.Header.{usage_of, is_set, header_aAt, address_at}
+use Rattle.spach.specs.Header.{usage_of, is_set, header_a_at, address_at}
 use Rattle.spach.proofs.Outcomes.{passed, then-gives, gives_same}
 use Rattle.arq.specs.declared.FrameKind.{FrameKind}
 use Rattle.arq.specs.declared.FrameKind.TheVariants.{Begin, Continue}
@@ -173,9 +173,9 @@ module _ (bs : List Bool) where
         then_row (is_set 6 bs) 6 (gives (headed c)) (λ a. decode_usage a bs)
         (row (eqb (usage_of c) 7) 3 _ (goes (headed c)) ∙ ap (λ (x : Bool). refuse x 3 o) e)
 
-    usage_said : said (and_then (header_aAt 0 bs) (λ a. decode_usage a bs))
+    usage_said : said (and_then (header_a_at 0 bs) (λ a. decode_usage a bs))
         ≡ table ((not (eqb usage_at 3 || eqb usage_at 4 || eqb usage_at 7), 3) ∷ (not (eqb (field 6 1 bs) 0), 6) ∷ (eqb usage_at 7, 3) ∷ []) o
-    unfolding header_aAt
+    unfolding header_a_at
     usage_said = by (eqb usage_at 3) (eqb usage_at 4) (eqb usage_at 7) refl refl refl
       where
         by : (x y z : Bool) → eqb usage_at 3 ≡ x → eqb usage_at 4 ≡ y → eqb usage_at 7 ≡ z
@@ -293,7 +293,7 @@ decode_heard xs f e =
     let bs : List Bool = bits_of xs in
     let x = passed (not (eqb (length xs) 14)) 1 _ (sym (decode_parts xs) ∙ e) in
     let y = passed (not (eqb (field 109 3 bs) 0)) 15 _ x.1 in
-    let g = then-gives (header_aAt 0 bs) _ y.1 in
+    let g = then-gives (header_a_at 0 bs) _ y.1 in
     let u = passed (eqb (usage_of g.0.channel) 7) 3 _ g.2 in
     kind_heard g.0 bs f u.1
 
@@ -323,8 +323,8 @@ module _ (ls bs : List Bool) (before : take 12 ls ≡ take 12 bs) (behind : drop
   unfolding field
   field_behind p u = ap (λ (cs : List Bool). value (take u cs)) (past p)
 
-  header_skips : header_aAt 0 ls ≡ header_aAt 0 bs
-  unfolding header_aAt
+  header_skips : header_a_at 0 ls ≡ header_a_at 0 bs
+  unfolding header_a_at
   header_skips = rw (field_before 0 3 (omega arith), field_before 3 1 (omega arith), field_before 4 1 (omega arith), field_before 5 1 (omega arith), field_before 6 1 (omega arith))
 
   continue_skips : (h : HeaderA) → decode_continue h ls ≡ decode_continue h bs
@@ -360,7 +360,7 @@ continue_alike xs ys k s = decode_parts xs ∙ (same ∙ sym (decode_parts ys))
     same =
         rw (s.size, padding, header_skips ls bs s.before s.behind)
         (ap (λ (o : Outcome ArqFrame). refuse (not (eqb (length ys) 14)) 1 (refuse (not (eqb (field 109 3 bs) 0)) 15 o))
-        (then_same (header_aAt 0 bs) (λ h. decode_usage h ls) (λ h. decode_usage h bs) (λ h. ap (refuse (eqb (usage_of h.channel) 7) 3) (kind_skips ls bs s.before s.behind k h))))
+        (then_same (header_a_at 0 bs) (λ h. decode_usage h ls) (λ h. decode_usage h bs) (λ h. ap (refuse (eqb (usage_of h.channel) 7) 3) (kind_skips ls bs s.before s.behind k h))))
 
 -- ---- the cut
 

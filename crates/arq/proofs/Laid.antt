@@ -19,7 +19,7 @@ use Rattle.rach.specs.declared.MobileIdentity.{MobileIdentity}
 use Rattle.rach.proofs.Laws.{width_most}
 use Rattle.spach.specs.declared.HeaderA.{HeaderA}
 use Rattle.spach.specs.Refusal.{gives}
-use Rattle.spach.specs.Header.{usage_of, header_a, header_b, address, is_set, header_aAt, address_at}
+use Rattle.spach.specs.Header.{usage_of, header_a, header_b, address, is_set, header_a_at, address_at}
 use Rattle.spach.proofs.Laid.{flag_laid, without_response, header_a_laid, address_reads}
 use Rattle.arq.specs.declared.ResponseMode.{ResponseMode}
 use Rattle.arq.specs.declared.ResponseMode.TheVariants.{Contention, Reservation}
@@ -35,13 +35,13 @@ mode_laid Contention e = rw e
 mode_laid Reservation e = rw e
 
 -- header A as it is read of a header that was laid
-abbrev pub header_aOf : ArqHeader → HeaderA
-header_aOf h = record { channel = h.channel; flags = without_response h.flags; reader = record { offset = 7 } }
+abbrev pub header_a_of : ArqHeader → HeaderA
+header_a_of h = record { channel = h.channel; flags = without_response h.flags; reader = record { offset = 7 } }
 
 -- the header that was laid is read
 pub header_laid : (h : ArqHeader) (o : ℕ) (bs : List Bool) {r : Bool} → r ≡ h.flags.reservation_response
     → field o 7 bs ≡ h.partial_echo → field (o + 9) 1 bs ≡ bit h.polling % 2 ^ 1 → field (o + 10) 1 bs ≡ mode_of h.response_mode % 2 ^ 1
-    → header_at (header_aOf h) r o bs ≡ h
+    → header_at (header_a_of h) r o bs ≡ h
 header_laid h o bs er ee ep em = rw (er, ee, flag_laid h.polling ep, mode_laid h.response_mode em)
 
 -- a table and its data in a packed frame, 109 bits in all
@@ -77,14 +77,14 @@ module _ (fs : List (ℕ × ℕ)) (r : ℕ) (d : List Bool) (whole : total fs + 
 
 -- octets, decoded up to the kind
 pub decode_opens : (xs : List ℕ) (bs : List Bool) {a : HeaderA} → length xs ≡ 14 → bits_of xs ≡ bs → field 109 3 bs ≡ 0
-    → header_aAt 0 bs ≡ gives a → eqb (usage_of a.channel) 7 ≡ false → decode_of xs ≡ decode_kind a bs
+    → header_a_at 0 bs ≡ gives a → eqb (usage_of a.channel) 7 ≡ false → decode_of xs ≡ decode_kind a bs
 decode_opens xs bs n b p e u = rw (decode_parts xs, b, n, p, e, u)
 
 -- a packed frame, decoded up to the kind: what is left is to read the rest of the table and the data
 pub opens : (h : ArqHeader) (fs : List (ℕ × ℕ)) (r : ℕ) (d : List Bool) → total (header_a h.channel h.flags ++ fs) + r ≡ 109 → length d ≤ r
     → eqb (usage_of h.channel) 7 ≡ false
     → decode_of (packed (layout (header_a h.channel h.flags ++ fs) ++ d)).octets
-    ≡ decode_kind (header_aOf h) (layout (header_a h.channel h.flags ++ fs) ++ (up_to r d ++ zeros 3))
+    ≡ decode_kind (header_a_of h) (layout (header_a h.channel h.flags ++ fs) ++ (up_to r d ++ zeros 3))
 unfolding packed
 opens h fs r d whole fits u =
     let a : List (ℕ × ℕ) = header_a h.channel h.flags in
@@ -94,7 +94,7 @@ opens h fs r d whole fits u =
     (length-octets 14 (up_to 112 (layout (a ++ fs) ++ d)))
     (packed-bits (a ++ fs) r d whole fits)
     (padding_laid (a ++ fs) r d whole fits)
-    (ap (header_aAt 0) e ∙ header_a_laid h.channel h.flags (layout fs ++ t))
+    (ap (header_a_at 0) e ∙ header_a_laid h.channel h.flags (layout fs ++ t))
     u
 
 -- a Continue by its fields
@@ -120,7 +120,7 @@ module _ (h : ArqHeader) (usage : eqb (usage_of h.channel) 7 ≡ false) (echo : 
       let bs : List Bool = layout fs ++ (up_to 79 d ++ zeros 3) in
       let at : (j : ℕ) → j < 14 → _ = λ j m. field-layout fs (up_to 79 d ++ zeros 3) j m in
       opens h (header_b 6 t h.flags ++ rest_of h ++ (5, k) ∷ []) 79 d refl fits usage
-      ∙ kind_continue (header_aOf h) bs (at 5 (omega arith)) (at 10 (omega arith)) (at 13 (omega arith) ∙ mod-eq_of_lt (omega arith)) l
+      ∙ kind_continue (header_a_of h) bs (at 5 (omega arith)) (at 10 (omega arith)) (at 13 (omega arith) ∙ mod-eq_of_lt (omega arith)) l
       (header_laid h 14 bs (flag_laid h.flags.reservation_response (at 8 (omega arith))) (at 9 (omega arith) ∙ mod-eq_of_lt echo) (at 11 (omega arith)) (at 12 (omega arith)))
       (at 6 (omega arith))
       (data_laid fs 79 d refl fits 30 refl)
@@ -139,7 +139,7 @@ module _ (h : ArqHeader) (usage : eqb (usage_of h.channel) 7 ≡ false) (echo : 
       λ j o m e. ap (λ (x : ℕ). field x (width fs j) bs) (sym e) ∙ at j m in
       let whole : total fs + room i ≡ 109 = omega (arith, width_most (type_of i)) in
       opens h (header_b 5 (type_of i) h.flags ++ address i ++ rest_of h ++ (8, n) ∷ []) (room i) d whole fits usage
-      ∙ kind_begin (header_aOf h) bs i h.flags.reservation_response (15 + w) (at 5 (omega arith))
+      ∙ kind_begin (header_a_of h) bs i h.flags.reservation_response (15 + w) (at 5 (omega arith))
       (address_reads 10 bs i h.flags.reservation_response en (at 6 (omega arith)) (at 7 (omega arith)) (at 8 (omega arith)) (at 9 (omega arith)) (at 10 (omega arith)))
       (rest 12 (15 + w + 7) (omega arith) (omega arith))
       (rest 15 (15 + w + 11) (omega arith) (omega arith) ∙ mod-eq_of_lt l)

@@ -14,7 +14,7 @@ use Rattle.spach.specs.declared.Channel.{Channel}
 use Rattle.spach.specs.declared.Channel.TheVariants.{Arch, Smsch, Pch}
 use Rattle.spach.specs.declared.HeaderA.{HeaderA}
 use Rattle.spach.specs.Refusal.{Outcome, gives, refuses, refuse, and_then}
-use Rattle.spach.specs.Header.{usage_of, is_set, header_aAt, address_at}
+use Rattle.spach.specs.Header.{usage_of, is_set, header_a_at, address_at}
 use Rattle.arq.specs.declared.ArqHeader.{ArqHeader}
 use Rattle.arq.specs.declared.ArqFrame.{ArqFrame}
 use Rattle.arq.specs.Frame.{room, a_begin}
@@ -108,7 +108,7 @@ module _ (bs : List Bool) where
 
 -- the whole
 pub decode_parts : (xs : List ℕ) → decode_of xs ≡ decode_by_parts xs
-unfolding decode_of header_aAt
+unfolding decode_of header_a_at
 decode_parts xs =
     let bs : List Bool = bits_of xs in
     ap (λ (o : Outcome ArqFrame). refuse (not (eqb (length xs) 14)) 1 (refuse (not (eqb (field 109 3 bs) 0)) 15 o))

@@ -20,7 +20,7 @@ use Rattle.rach.proofs.Laws.{width_most, value_identity, type_identity, identity
 use Rattle.spach.specs.declared.HeaderA.{HeaderA}
 use Rattle.spach.specs.declared.Address.{Address}
 use Rattle.spach.specs.Refusal.{gives, refuses, and_then}
-use Rattle.spach.specs.Header.{usage_of, header_a, is_set, header_aAt, address_at}
+use Rattle.spach.specs.Header.{usage_of, header_a, is_set, header_a_at, address_at}
 use Rattle.spach.proofs.Outcomes.{passed, then-gives}
 use Rattle.spach.proofs.Given.{flag-read, header_a_given, address_given}
 use Rattle.arq.specs.declared.ResponseMode.TheVariants.{Contention, Reservation}
@@ -82,7 +82,7 @@ module _ (bs : List Bool) (size : length bs ≡ 112) (padding : field 109 3 bs �
       rw u
 
   -- header A was read of them
-  module _ (a : HeaderA) (opened : header_aAt 0 bs ≡ gives a) (usage : eqb (usage_of a.channel) 7 ≡ false) where
+  module _ (a : HeaderA) (opened : header_a_at 0 bs ≡ gives a) (usage : eqb (usage_of a.channel) 7 ≡ false) where
     -- the table up to the identity type
     front_given : {k t : ℕ} → field 7 3 bs ≡ k → field 10 2 bs ≡ t → header_a a.channel a.flags ++ (3, k) ∷ (2, t) ∷ [] ≡ reads (3 ∷ 1 ∷ 1 ∷ 1 ∷ 1 ∷ 3 ∷ 2 ∷ []) 0 bs
     front_given {k} {t} ek et =
@@ -173,7 +173,7 @@ decode_again xs f e =
     let bs : List Bool = bits_of xs in
     let x = passed (not (eqb (length xs) 14)) 1 _ (sym (decode_parts xs) ∙ e) in
     let y = passed (not (eqb (field 109 3 bs) 0)) 15 _ x.1 in
-    let g = then-gives (header_aAt 0 bs) _ y.1 in
+    let g = then-gives (header_a_at 0 bs) _ y.1 in
     let u = passed (eqb (usage_of g.0.channel) 7) 3 _ g.2 in
     let n : length xs ≡ 14 = eqb-true (length xs) 14 (not-false _ x.0) in
     let z : field 109 3 bs ≡ 0 = eqb-true (field 109 3 bs) 0 (not-false _ y.0) in

@@ -15,7 +15,7 @@ use Rattle.rach.specs.declared.MobileIdentity.TheVariants.{Tmsi20, Tmsi24, Min34
 use Rattle.spach.specs.declared.Channel.{Channel}
 use Rattle.spach.specs.declared.Channel.TheVariants.{Arch, Smsch, Pch}
 use Rattle.spach.specs.Refusal.{Outcome, gives, refuses, and_then}
-use Rattle.spach.specs.Header.{usage_of, header_aAt, address_at}
+use Rattle.spach.specs.Header.{usage_of, header_a_at, address_at}
 use Rattle.arq.specs.declared.ResponseMode.{ResponseMode}
 use Rattle.arq.specs.declared.ResponseMode.TheVariants.{Contention, Reservation}
 use Rattle.arq.specs.declared.FrameKind.{FrameKind}
@@ -161,7 +161,7 @@ samples =
     ∷ []
 
 settled : T (all samples)
-unfolding samples bits value bits_of octets field layout up_to any_set in_range encodable header_aAt address_at packed begin_frame continue_frame encode_of decode_of count_of frame_of
+unfolding samples bits value bits_of octets field layout up_to any_set in_range encodable header_a_at address_at packed begin_frame continue_frame encode_of decode_of count_of frame_of
 settled = tt
 
 -- 01, "Refused, operation by operation": the order of the refusals. Each input but a few has the fault that it is refused for
@@ -208,7 +208,7 @@ refusals =
     ∷ []
 
 settled_refusals : T (all refusals)
-unfolding refusals bits value bits_of octets field layout up_to any_set in_range encodable header_aAt address_at packed begin_frame continue_frame encode_of decode_of count_of frame_of
+unfolding refusals bits value bits_of octets field layout up_to any_set in_range encodable header_a_at address_at packed begin_frame continue_frame encode_of decode_of count_of frame_of
 settled_refusals = tt
 
 -- what the lists above leave alike, told apart. The frames are the Rust's answers (`oracle`, FRAME, ENCODE and DECODE): a message whose octets all
@@ -340,7 +340,7 @@ apart =
     ∷ []
 
 settled_apart : T (all apart)
-unfolding apart bits value bits_of octets field layout up_to any_set in_range encodable header_aAt address_at packed begin_frame continue_frame encode_of decode_of count_of frame_of
+unfolding apart bits value bits_of octets field layout up_to any_set in_range encodable header_a_at address_at packed begin_frame continue_frame encode_of decode_of count_of frame_of
 settled_apart = tt
 
 -- what stands beside a refusal: 14 zeros; a Begin with nothing in it

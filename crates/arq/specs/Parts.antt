@@ -7,7 +7,7 @@ use Rattle.field.specs.Layout.{any_set}
 use Rattle.spach.specs.declared.HeaderA.{HeaderA}
 use Rattle.spach.specs.declared.Address.{Address}
 use Rattle.spach.specs.Refusal.{Outcome, gives, refuses, refuse, and_then}
-use Rattle.spach.specs.Header.{usage_of, is_set, header_aAt, address_at}
+use Rattle.spach.specs.Header.{usage_of, is_set, header_a_at, address_at}
 use Rattle.arq.specs.declared.FrameKind.TheVariants.{Begin, Continue}
 use Rattle.arq.specs.declared.ArqHeader.{ArqHeader}
 use Rattle.arq.specs.declared.ArqFrame.{ArqFrame}
@@ -68,5 +68,5 @@ decode_by_parts xs =
     let bs = bits_of xs in
     refuse (not (eqb (length xs) 14)) 1
     (refuse (not (eqb (field 109 3 bs) 0)) 15
-    (and_then (header_aAt 0 bs) (λ h.
+    (and_then (header_a_at 0 bs) (λ h.
     decode_usage h bs)))

@@ -1,5 +1,7 @@
 // Fields of packed octets: unsigned, top bit first, 1 to 50 bits at any bit offset.
 // Ported from `put` and `take` of link/spach.rs (chrismoos/136-bts 7c60b63bf4, Apache-2.0) and changed: see NOTICE.
+#![tactic(auto)]
+
 ghost use Rattle.std.specs.Prelude.{◌≡◌, ◌+◌, ◌-◌, ◌*◌, ◌/◌, ◌%◌, ◌^◌, ◌≤◌, ◌<◌, min, length, take, drop};
 ghost use Rattle.field.specs.Layout.{any_set};
 ghost use Rattle.field.specs.Bits.{bits_of, field, put, splice};

@@ -7,7 +7,7 @@ use Rattle.field.specs.Bits.{bits, value, bits_of, octets, field}
 use Rattle.field.specs.Layout.{layout, up_to, any_set}
 use Rattle.rach.specs.Identity.{same, in_range, encodable}
 use Rattle.spach.specs.Identity.{accept_identity}
-use Rattle.spach.specs.Header.{header_aAt, address_at}
+use Rattle.spach.specs.Header.{header_a_at, address_at}
 use Rattle.arq.specs.Decode.{decode_of}
 use Rattle.receiver.specs.Receiver.{new_of, slot_at, put_slot, gathered, assembled, finish, push_continue, push_frame, push_of, status_answer}
 use Rattle.listing.specs.Text.{decimal_in, decimal_of, hex_of}
@@ -31,7 +31,7 @@ output =
     ++ (109 ∷ 101 ∷ 115 ∷ 115 ∷ 97 ∷ 103 ∷ 101 ∷ 115 ∷ 32 ∷ 49 ∷ 10 ∷ [])
 
 pub sample : listing_of input ≡ output
-unfolding listing_of open_of lines_of last_lines answer_text held_text octets_text delivery_text line_of cut_line messages_line decimal_in decimal_of hex_of new_of slot_at put_slot gathered assembled finish push_continue push_frame push_of status_answer decode_of header_aAt address_at accept_identity same in_range encodable bits value bits_of octets field layout up_to any_set ones ones_in
+unfolding listing_of open_of lines_of last_lines answer_text held_text octets_text delivery_text line_of cut_line messages_line decimal_in decimal_of hex_of new_of slot_at put_slot gathered assembled finish push_continue push_frame push_of status_answer decode_of header_a_at address_at accept_identity same in_range encodable bits value bits_of octets field layout up_to any_set ones ones_in
 sample = refl
 
 -- the other words: a Begin for Tmsi20 of 2, one of seven octets and an empty one for Tmsi20 of 1, then three octets of a frame
@@ -55,7 +55,7 @@ words =
     ++ (109 ∷ 101 ∷ 115 ∷ 115 ∷ 97 ∷ 103 ∷ 101 ∷ 115 ∷ 32 ∷ 49 ∷ 10 ∷ [])
 
 pub sample_words : listing_of others ≡ words
-unfolding listing_of open_of lines_of last_lines answer_text held_text octets_text delivery_text line_of cut_line messages_line decimal_in decimal_of hex_of new_of slot_at put_slot gathered assembled finish push_continue push_frame push_of status_answer decode_of header_aAt address_at accept_identity same in_range encodable bits value bits_of octets field layout up_to any_set ones ones_in
+unfolding listing_of open_of lines_of last_lines answer_text held_text octets_text delivery_text line_of cut_line messages_line decimal_in decimal_of hex_of new_of slot_at put_slot gathered assembled finish push_continue push_frame push_of status_answer decode_of header_a_at address_at accept_identity same in_range encodable bits value bits_of octets field layout up_to any_set ones ones_in
 sample_words = refl
 
 -- a short identity prints the one line `identity`

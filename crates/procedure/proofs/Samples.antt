@@ -15,7 +15,7 @@ use Rattle.rach.specs.declared.MobileIdentity.{MobileIdentity}
 use Rattle.rach.specs.declared.MobileIdentity.TheVariants.{Tmsi20}
 use Rattle.spach.specs.declared.Channel.TheVariants.{Arch}
 use Rattle.spach.specs.Refusal.{Outcome, gives, refuses}
-use Rattle.spach.specs.Header.{header_aAt, address_at}
+use Rattle.spach.specs.Header.{header_a_at, address_at}
 use Rattle.arq.specs.declared.ResponseMode.TheVariants.{Contention, Reservation}
 use Rattle.arq.specs.declared.ArqHeader.{ArqHeader}
 use Rattle.arq.specs.declared.PackedFrame.{PackedFrame}
@@ -149,7 +149,7 @@ pub settled : (new_of identity 7 ≡ gives (fresh 7))
     × ((present (runs after_begin (status_sent 102 (status 8 0 false) results.Failed ∷ []))).0 ≡ 9)
     × (active_of (runs after_begin (reset ∷ [])) ≡ false)
     × ((present (runs after_begin (reset ∷ []))).0 ≡ 9)
-unfolding new_of R.new_of runs receive_of accepted advance_of status_sent_of reset_of push_frame push_continue finish assembled gathered slot_at put_slot same ones ones_in decode_of header_aAt address_at bits_of bits value octets field up_to layout any_set encode_of begin_frame continue_frame packed encodable in_range
+unfolding new_of R.new_of runs receive_of accepted advance_of status_sent_of reset_of push_frame push_continue finish assembled gathered slot_at put_slot same ones ones_in decode_of header_a_at address_at bits_of bits value octets field up_to layout any_set encode_of begin_frame continue_frame packed encodable in_range
 settled = (refl, refl, refl, refl, refl, refl, refl, refl, refl, refl, refl, refl, refl, refl, refl, refl, refl, refl, refl, refl, refl)
 
 -- by the frames: messages, polls, refusals with the clock moved, the last four tokens
@@ -174,7 +174,7 @@ pub received : ((receive_of after_begin 101 (frame seven 1) room).buffer ≡ sev
     × ((receive_of (fresh (stop - 4)) 100 (frame (65 ∷ []) 0) []).outcome ≡ refuses 18)
     × ((reset_of (fresh (stop - 5))).outcome ≡ gives tt)
     × ((reset_of (fresh (stop - 4))).outcome ≡ refuses 18)
-unfolding runs receive_of accepted advance_of status_sent_of reset_of push_frame push_continue finish assembled gathered slot_at put_slot same ones ones_in decode_of header_aAt address_at bits_of bits value octets field up_to layout any_set encode_of begin_frame continue_frame packed encodable in_range
+unfolding runs receive_of accepted advance_of status_sent_of reset_of push_frame push_continue finish assembled gathered slot_at put_slot same ones ones_in decode_of header_a_at address_at bits_of bits value octets field up_to layout any_set encode_of begin_frame continue_frame packed encodable in_range
 received = (refl, refl, refl, refl, refl, refl, refl, refl, refl, refl, refl, refl, refl, refl, refl, refl, refl, refl, refl, refl, refl)
 
 -- by the wait: it begins anew only with a frame that is accepted and leaves the message incomplete, and with a status that was sent
@@ -190,7 +190,7 @@ pub waited : (whole.inactivity.state ≡ Waiting 100)
     × ((status_sent_of after_begin 120 (status 8 0 false) results.Sent).outcome ≡ gives sends.Pending)
     × ((status_sent_of after_begin 120 (status 8 0 false) results.Sent).state.inactivity.state ≡ Waiting 120)
     × ((status_sent_of after_begin 120 (status 8 0 false) results.Failed).outcome ≡ gives sends.Failed)
-unfolding runs receive_of accepted advance_of status_sent_of push_frame push_continue finish assembled gathered slot_at put_slot same ones ones_in decode_of header_aAt address_at bits_of bits value octets field up_to layout any_set encode_of begin_frame continue_frame packed encodable in_range
+unfolding runs receive_of accepted advance_of status_sent_of push_frame push_continue finish assembled gathered slot_at put_slot same ones ones_in decode_of header_a_at address_at bits_of bits value octets field up_to layout any_set encode_of begin_frame continue_frame packed encodable in_range
 waited = (refl, refl, refl, refl, refl, refl, refl, refl, refl, refl, refl, refl)
 
 -- a timer in a state at block b, under a token; an unsolicited status is pending or not
@@ -241,7 +241,7 @@ pub visited : (waiting.inactivity ≡ timer (FinalWait 150) 150 false 8)
     × ((status_sent_of sending 150 (unsolicited asked) results.Sent).state.inactivity ≡ timer (FinalWait 150) 150 false 8)
     × ((advance_of (runs sending (status_sent 150 (unsolicited asked) results.Sent ∷ [])) 900).outcome ≡ gives None)
     × ((status_sent_of sending 150 (unsolicited asked) results.Failed).outcome ≡ gives sends.Failed)
-unfolding runs receive_of accepted advance_of status_sent_of push_frame push_continue finish assembled gathered slot_at put_slot same ones ones_in decode_of header_aAt address_at bits_of bits value octets field up_to layout any_set encode_of begin_frame continue_frame packed encodable in_range
+unfolding runs receive_of accepted advance_of status_sent_of push_frame push_continue finish assembled gathered slot_at put_slot same ones ones_in decode_of header_a_at address_at bits_of bits value octets field up_to layout any_set encode_of begin_frame continue_frame packed encodable in_range
 visited = (refl, refl, refl, refl, refl, refl, refl, refl, refl, refl, refl, refl, refl, refl, refl, refl, refl, refl, refl, refl, refl, refl, refl, refl, refl, refl, refl, refl, refl)
 
 -- an order of four frames: with two of its three Continues it is not complete, by whatever frame it was polled
@@ -269,7 +269,7 @@ pub lived : ((receive_of two_thirds 105 (polled thirty 1) room).outcome ≡ give
     × (active_of half ≡ true)
     × (active_of sending ≡ true)
     × (active_of three_thirds ≡ true)
-unfolding runs receive_of accepted advance_of status_sent_of push_frame push_continue finish assembled gathered slot_at put_slot same ones ones_in decode_of header_aAt address_at bits_of bits value octets field up_to layout any_set encode_of begin_frame continue_frame packed encodable in_range
+unfolding runs receive_of accepted advance_of status_sent_of push_frame push_continue finish assembled gathered slot_at put_slot same ones ones_in decode_of header_a_at address_at bits_of bits value octets field up_to layout any_set encode_of begin_frame continue_frame packed encodable in_range
 lived = (refl, refl, refl, refl, refl, refl, refl, refl, refl, refl, refl, refl, refl, refl, refl, refl, refl)
 
 -- what stands beside a refused constructor: nothing held, for Tmsi20 of 0, under token 0
@@ -280,12 +280,12 @@ blank = (refl, refl)
 
 -- a status is pending, though a frame was accepted since
 pub pending : Pending longer 132 (receive 140 (frame twenty 1) room ∷ [])
-unfolding runs Each receive_of accepted advance_of push_frame push_continue finish assembled gathered slot_at put_slot same ones ones_in decode_of header_aAt address_at bits_of bits value octets field up_to layout any_set encode_of begin_frame continue_frame packed encodable in_range
+unfolding runs Each receive_of accepted advance_of push_frame push_continue finish assembled gathered slot_at put_slot same ones ones_in decode_of header_a_at address_at bits_of bits value octets field up_to layout any_set encode_of begin_frame continue_frame packed encodable in_range
 pending = record { status = unsolicited (runs longer (advance 132 ∷ [])); asked = refl; under = refl; unanswered = ((λ a. a.0), tt) }
 
 -- one was sent, though octets that are no frame were refused and a reset was not called since
 pub told-sent : ReportedSent after_begin 132 (receive 140 (1 ∷ []) room ∷ advance 141 ∷ []) 150 (unsolicited asked) results.Sent
-unfolding runs Each receive_of accepted advance_of status_sent_of push_frame push_continue finish assembled gathered slot_at put_slot same ones ones_in decode_of header_aAt address_at bits_of bits value octets field up_to layout any_set encode_of begin_frame continue_frame packed encodable in_range
+unfolding runs Each receive_of accepted advance_of status_sent_of push_frame push_continue finish assembled gathered slot_at put_slot same ones ones_in decode_of header_a_at address_at bits_of bits value octets field up_to layout any_set encode_of begin_frame continue_frame packed encodable in_range
 told-sent = record {
   status = unsolicited asked;
   asked = refl;

@@ -1,5 +1,7 @@
 // Identities of mobile stations as the air interface packs them, and their parts.
 // Ported from link/rach.rs (chrismoos/136-bts 7c60b63bf4, Apache-2.0) and changed: see NOTICE.
+#![tactic(auto)]
+
 ghost use Rattle.std.specs.Prelude.{◌≡◌, ◌^◌, ◌<◌, ◌≤◌};
 ghost use Rattle.rach.specs.Identity.{width_of, in_range, parts_of, identity_of, same, encodable};
 

@@ -17,7 +17,7 @@ use Rattle.spach.specs.declared.HeaderA.{HeaderA}
 use Rattle.spach.specs.declared.Address.{Address}
 use Rattle.spach.specs.declared.Channel.TheVariants.{Arch, Smsch, Pch}
 use Rattle.spach.specs.Refusal.{Outcome, gives, refuses, refuse, and_then}
-use Rattle.spach.specs.Header.{usage_of, is_set, channel_of, header_aAt, address_at}
+use Rattle.spach.specs.Header.{usage_of, is_set, channel_of, header_a_at, address_at}
 use Rattle.spach.proofs.Outcomes.{passed, then-gives}
 use Rattle.arq.specs.declared.FrameKind.TheVariants.{Begin}
 use Rattle.arq.specs.declared.ArqHeader.{ArqHeader}
@@ -98,7 +98,7 @@ decoded xs f e =
     let bs : List Bool = bits_of xs in
     let x = passed (not (eqb (length xs) 14)) 1 _ (sym (decode_parts xs) ∙ e) in
     let y = passed (not (eqb (field 109 3 bs) 0)) 15 _ x.1 in
-    let g = then-gives (header_aAt 0 bs) _ y.1 in
+    let g = then-gives (header_a_at 0 bs) _ y.1 in
     let u = passed (eqb (usage_of g.0.channel) 7) 3 _ g.2 in
     let n : length xs ≡ 14 = eqb-true (length xs) 14 (not-false _ x.0) in
     decoded_kind g.0 bs (length-bits_of xs ∙ ap (λ (m : ℕ). 8 * m) n) f u.1
@@ -132,8 +132,8 @@ module _ (bs : List Bool) where
   within_channel u =
       within_cond (eqb u 3) (within_gives Arch) (within_cond (eqb u 4) (within_gives Smsch) (within_cond (eqb u 7) (within_gives Pch) (within_refuses 3 (omega arith))))
 
-  within_header : Within (header_aAt 0 bs)
-  unfolding header_aAt
+  within_header : Within (header_a_at 0 bs)
+  unfolding header_a_at
   within_header = within_then (channel_of (field 0 3 bs)) (within_channel (field 0 3 bs)) (λ c. within_refuse (is_set 6 bs) 6 (omega arith) (within_gives _))
 
   within_address : Within (address_at 10 bs)
@@ -162,7 +162,7 @@ within_decode xs =
     subst Within (sym (decode_parts xs))
     (within_refuse (not (eqb (length xs) 14)) 1 (omega arith)
     (within_refuse (not (eqb (field 109 3 bs) 0)) 15 (omega arith)
-    (within_then (header_aAt 0 bs) (within_header bs) (λ h. within_refuse (eqb (usage_of h.channel) 7) 3 (omega arith) (within_kind bs h)))))
+    (within_then (header_a_at 0 bs) (within_header bs) (λ h. within_refuse (eqb (usage_of h.channel) 7) 3 (omega arith) (within_kind bs h)))))
 
 -- so no refusal of decode is 16
 pub decode_numbers : (xs : List ℕ) (n : ℕ) → decode_of xs ≡ refuses n → n ≤ 15

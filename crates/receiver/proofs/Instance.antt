@@ -18,7 +18,7 @@ use Rattle.rach.specs.declared.MobileIdentity.TheVariants.{Tmsi20, Tmsi24}
 use Rattle.rach.proofs.Laws.{same_self, both}
 use Rattle.spach.specs.declared.Channel.TheVariants.{Arch, Smsch}
 use Rattle.spach.specs.Refusal.{Outcome, gives, refuses}
-use Rattle.spach.specs.Header.{usage_of, header_aAt, address_at}
+use Rattle.spach.specs.Header.{usage_of, header_a_at, address_at}
 use Rattle.arq.specs.declared.ResponseMode.TheVariants.{Contention, Reservation}
 use Rattle.arq.specs.declared.ArqHeader.{ArqHeader}
 use Rattle.arq.specs.declared.ArqFrame.{ArqFrame}
@@ -143,7 +143,7 @@ rest_longer =
 
 -- what each list hears: nothing of the refused pushes, and all of the others'
 pub hear : (heards pushes ≡ b ∷ rest) × (heards before ≡ b ∷ rest_before) × (heards longer ≡ b ∷ rest_longer)
-unfolding heard decode_of header_aAt address_at bits_of bits value octets field up_to layout any_set encode_of begin_frame continue_frame packed encodable in_range
+unfolding heard decode_of header_a_at address_at bits_of bits value octets field up_to layout any_set encode_of begin_frame continue_frame packed encodable in_range
 hear = (refl, refl, refl)
 
 -- ---- the premise, as a test of the frames heard
@@ -263,7 +263,7 @@ pub answered : (lines_of (fresh receiver) pushes
     × ((push_of (runs new_of push_of status_answer (fresh receiver) before) last.octets last.buffer).buffer ≡ text ++ replicate 270 7)
     × (status_answer (runs new_of push_of status_answer (fresh receiver) before) ≡ Status (record { partial_echo = 5; received_frames = 5 }))
     × (status_answer (runs new_of push_of status_answer (fresh receiver) longer) ≡ Status (record { partial_echo = 5; received_frames = 7 }))
-unfolding status_answer push_of push_frame push_continue finish assembled gathered slot_at put_slot same ones ones_in decode_of header_aAt address_at bits_of bits value octets field up_to layout any_set encode_of begin_frame continue_frame packed encodable in_range
+unfolding status_answer push_of push_frame push_continue finish assembled gathered slot_at put_slot same ones ones_in decode_of header_a_at address_at bits_of bits value octets field up_to layout any_set encode_of begin_frame continue_frame packed encodable in_range
 answered = (refl, refl, refl, refl)
 
 -- ---- demand 3 of them

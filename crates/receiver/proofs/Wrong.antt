@@ -11,7 +11,7 @@ use Rattle.field.specs.Bits.{bits, value, bits_of, octets, field}
 use Rattle.field.specs.Layout.{layout, up_to, any_set}
 use Rattle.rach.specs.Identity.{same, in_range, encodable}
 use Rattle.spach.specs.Refusal.{refuses}
-use Rattle.spach.specs.Header.{header_aAt, address_at}
+use Rattle.spach.specs.Header.{header_a_at, address_at}
 use Rattle.arq.specs.declared.ArqFrame.{ArqFrame}
 use Rattle.arq.specs.Frame.{packed, begin_frame, continue_frame}
 use Rattle.arq.specs.Encode.{encode_of}
@@ -34,7 +34,7 @@ abbrev sooner : List Push
 sooner = before ++ last ∷ []
 
 hear_sooner : (heards sooner ≡ b ∷ (rest_before ++ c plain 1 ∷ [])) × (heard final ≡ c loud 0 ∷ [])
-unfolding heard decode_of header_aAt address_at bits_of bits value octets field up_to layout any_set encode_of begin_frame continue_frame packed encodable in_range
+unfolding heard decode_of header_a_at address_at bits_of bits value octets field up_to layout any_set encode_of begin_frame continue_frame packed encodable in_range
 hear_sooner = (refl, refl)
 
 -- Continue 0 was heard before it
@@ -113,7 +113,7 @@ repeating s xs buffer =
 
 -- its last push is not silent
 pub no_repeating : Claim new_of repeating status_answer → ⊥
-unfolding push_of push_frame push_continue finish assembled gathered slot_at put_slot same ones ones_in decode_of header_aAt address_at bits_of bits value octets field up_to layout any_set encode_of begin_frame continue_frame packed encodable in_range
+unfolding push_of push_frame push_continue finish assembled gathered slot_at put_slot same ones ones_in decode_of header_a_at address_at bits_of bits value octets field up_to layout any_set encode_of begin_frame continue_frame packed encodable in_range
 no_repeating claim = ((at-end repeating claim).others completes_not).answer
 
 -- ---- left to the laws beside it

@@ -9,7 +9,7 @@ fn replay(script: &[u8], answers: &mut [u8], text: &mut [u8]) -> usize
     ensures { result ≤ length text.new }
 {
     let count = script::script_run(script, answers);
-    hex::hex(&answers[0..count], text)
+    hex_lines::hex(&answers[0..count], text)
 }
 
 fn main() {

@@ -11,7 +11,7 @@ fn replay(script: &[u8], answers: &mut [u8], text: &mut [u8]) -> usize
     let mut octets = [0u8; 32672];
     let mut words = [0u64; 3460];
     let count = script_sender::sender_run(script, answers, &mut octets, &mut words);
-    hex::hex(&answers[0..count], text)
+    hex_lines::hex(&answers[0..count], text)
 }
 
 fn main() {

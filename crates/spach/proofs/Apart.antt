@@ -20,7 +20,7 @@ use Rattle.spach.specs.declared.AddressAnswer.{AddressAnswer}
 use Rattle.spach.specs.declared.AddressAnswer.TheVariants as addresses
 use Rattle.spach.specs.Refusal.{number_of, Outcome, gives, refuses, verdict_of}
 use Rattle.spach.specs.Identity.{identity_answer}
-use Rattle.spach.specs.Header.{usage_of, channel_answer, header_aAnswer, address_answer}
+use Rattle.spach.specs.Header.{usage_of, channel_answer, header_a_answer, address_answer}
 
 -- a reading that can be undone tells its arguments apart
 pub apart : {A B : Type 0} (read : A → B) (back : B → A) → ((a : A) → back (read a) ≡ a) → (a b : A) → read a ≡ read b → a ≡ b
@@ -100,10 +100,10 @@ channels_apart = apart channel_answer (answer channels.Channel channels.Refused)
     undo (channels.Channel a) = refl
     undo (channels.Refused e) = ap channels.Refused (error_number e)
 
-pub headers_apart : (a b : HeaderAAnswer) → header_aAnswer a ≡ header_aAnswer b → a ≡ b
-headers_apart = apart header_aAnswer (answer headers.Header headers.Refused) undo
+pub headers_apart : (a b : HeaderAAnswer) → header_a_answer a ≡ header_a_answer b → a ≡ b
+headers_apart = apart header_a_answer (answer headers.Header headers.Refused) undo
   where
-    undo : (a : HeaderAAnswer) → answer headers.Header headers.Refused (header_aAnswer a) ≡ a
+    undo : (a : HeaderAAnswer) → answer headers.Header headers.Refused (header_a_answer a) ≡ a
     undo (headers.Header a) = refl
     undo (headers.Refused e) = ap headers.Refused (error_number e)
 

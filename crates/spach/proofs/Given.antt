@@ -16,7 +16,7 @@ use Rattle.spach.specs.declared.Channel.TheVariants.{Arch, Smsch, Pch}
 use Rattle.spach.specs.declared.HeaderA.{HeaderA}
 use Rattle.spach.specs.declared.Address.{Address}
 use Rattle.spach.specs.Refusal.{gives, refuses}
-use Rattle.spach.specs.Header.{usage_of, channel_of, header_a, is_set, header_aAt, address_at}
+use Rattle.spach.specs.Header.{usage_of, channel_of, header_a, is_set, header_a_at, address_at}
 use Rattle.spach.proofs.Outcomes.{passed, then-gives}
 
 -- a bit that was read
@@ -40,9 +40,9 @@ usage_read u c e = go (eqb u 3) (eqb u 4) (eqb u 7) refl refl refl e
     go false false false p q r e = let z : ◌≡◌ {A = ℕ} 0 1 = cc in absurd (omega arith)
 
 -- header A that was read is the table of its fields
-pub header_a_given : (bs : List Bool) (a : HeaderA) → 7 ≤ length bs → header_aAt 0 bs ≡ gives a
+pub header_a_given : (bs : List Bool) (a : HeaderA) → 7 ≤ length bs → header_a_at 0 bs ≡ gives a
     → header_a a.channel a.flags ≡ reads (3 ∷ 1 ∷ 1 ∷ 1 ∷ 1 ∷ []) 0 bs
-unfolding header_aAt
+unfolding header_a_at
 header_a_given bs a n e =
     let x = then-gives (channel_of (field 0 3 bs)) _ e in
     let y = passed (is_set 6 bs) 6 _ x.2 in

@@ -16,7 +16,7 @@ use Rattle.spach.specs.declared.Channel.{Channel}
 use Rattle.spach.specs.declared.Channel.TheVariants.{Arch, Smsch, Pch}
 use Rattle.spach.specs.declared.HeaderFlags.{HeaderFlags}
 use Rattle.spach.specs.Refusal.{gives}
-use Rattle.spach.specs.Header.{usage_of, channel_of, header_a, header_b, address, header_aAt, address_at}
+use Rattle.spach.specs.Header.{usage_of, channel_of, header_a, header_b, address, header_a_at, address_at}
 use Rattle.spach.proofs.Laws.{header_a_read, address_identity, identity_read}
 
 -- a flag that was laid
@@ -40,7 +40,7 @@ without_response f = record {
 }
 
 pub header_a_laid : (c : Channel) (f : HeaderFlags) (t : List Bool)
-    → header_aAt 0 (layout (header_a c f) ++ t) ≡ gives (record { channel = c; flags = without_response f; reader = record { offset = 7 } })
+    → header_a_at 0 (layout (header_a c f) ++ t) ≡ gives (record { channel = c; flags = without_response f; reader = record { offset = 7 } })
 header_a_laid c f t =
     let at : (k : ℕ) → k < 5 → _ = λ k h. field-layout (header_a c f) t k h in
     sym (header_a_read 0 (layout (header_a c f) ++ t) (usage_laid c (at 0 (omega arith))) refl refl refl refl (at 4 (omega arith)) refl)

@@ -15,7 +15,7 @@ use Rattle.rach.specs.declared.MobileIdentity.{MobileIdentity}
 use Rattle.spach.specs.declared.Channel.{Channel}
 use Rattle.spach.specs.declared.Channel.TheVariants.{Arch, Smsch, Pch}
 use Rattle.spach.specs.Refusal.{gives, refuses}
-use Rattle.spach.specs.Header.{channel_of, header_aAt, identity_at, address_at}
+use Rattle.spach.specs.Header.{channel_of, header_a_at, identity_at, address_at}
 
 -- the fields of a run of w bits at offset o that was taken as one number x
 pub record Parts (o w x : ℕ) (bs : List Bool) : Type 0 where
@@ -47,12 +47,12 @@ channel_refused u n e = go (eqb u 3) (eqb u 4) (eqb u 7) e
 
 module _ (o : ℕ) (bs : List Bool) where
   -- header A: the usage, the fourth flag, the header
-  pub header_a_usage : {n : ℕ} → channel_of (field o 3 bs) ≡ refuses n → refuses 3 ≡ header_aAt o bs
-  unfolding header_aAt
+  pub header_a_usage : {n : ℕ} → channel_of (field o 3 bs) ≡ refuses n → refuses 3 ≡ header_a_at o bs
+  unfolding header_a_at
   header_a_usage {n} e = rw e (ap refuses (channel_refused (field o 3 bs) n e))
 
-  pub header_a_reserved : {c : Channel} {x : ℕ} → channel_of (field o 3 bs) ≡ gives c → x ≡ field (o + 6) 1 bs → (x ≡ 0 → ⊥) → refuses 6 ≡ header_aAt o bs
-  unfolding header_aAt
+  pub header_a_reserved : {c : Channel} {x : ℕ} → channel_of (field o 3 bs) ≡ gives c → x ≡ field (o + 6) 1 bs → (x ≡ 0 → ⊥) → refuses 6 ≡ header_a_at o bs
+  unfolding header_a_at
   header_a_reserved e ex h = rw (e, ← ex, ne_eqb _ 0 h)
 
   pub header_a_read : {c : Channel} {p b m x n : ℕ} → channel_of (field o 3 bs) ≡ gives c
@@ -63,8 +63,8 @@ module _ (o : ℕ) (bs : List Bool) where
         flags = record { pch_continuation = not (eqb p 0); bcch_change = not (eqb b 0); paging_frame_modifier = not (eqb m 0); reservation_response = false };
         reader = record { offset = n };
       })
-      ≡ header_aAt o bs
-  unfolding header_aAt
+      ≡ header_a_at o bs
+  unfolding header_a_at
   header_a_read e ep eb em ex h en = rw (e, ← ex, eq-eqb _ 0 h, ep, eb, em, en)
 
   -- an identity: zero, or the address

@@ -22,7 +22,7 @@ use Rattle.spach.specs.declared.AddressAnswer.TheVariants as addresses
 use Rattle.spach.specs.Refusal.{number_of, Outcome, gives, refuses, refuse, and_then, After, onward, verdict_of}
 use Rattle.spach.specs.Answered.{answered}
 use Rattle.spach.specs.Identity.{identity_answer}
-use Rattle.spach.specs.Header.{channel_of, header_aAt, address_at, channel_answer, header_aAnswer, address_answer, usage_of}
+use Rattle.spach.specs.Header.{channel_of, header_a_at, address_at, channel_answer, header_a_answer, address_answer, usage_of}
 
 -- the numbers of the errors
 pub numbers : (number_of Length ≡ 1) × (number_of Identity ≡ 2) × (number_of UnsupportedUsage ≡ 3) × (number_of UnsupportedFrame ≡ 4) × (number_of Encrypted ≡ 5) × (number_of Reserved ≡ 6) × (number_of Filler ≡ 7)
@@ -38,7 +38,7 @@ identities_say = (λ i. refl, λ e. refl)
 pub channels_say : ((c : Channel) → channel_answer (channels.Channel c) ≡ gives c) × ((e : SpachError) → channel_answer (channels.Refused e) ≡ refuses (number_of e))
 channels_say = (λ c. refl, λ e. refl)
 
-pub headers_say : ((h : HeaderA) → header_aAnswer (headers.Header h) ≡ gives h) × ((e : SpachError) → header_aAnswer (headers.Refused e) ≡ refuses (number_of e))
+pub headers_say : ((h : HeaderA) → header_a_answer (headers.Header h) ≡ gives h) × ((e : SpachError) → header_a_answer (headers.Refused e) ≡ refuses (number_of e))
 headers_say = (λ h. refl, λ e. refl)
 
 pub addresses_say : ((a : Address) → address_answer (addresses.Address a) ≡ gives a) × ((e : SpachError) → address_answer (addresses.Refused e) ≡ refuses (number_of e))
@@ -76,8 +76,8 @@ module _ (o : ℕ) (bs : List Bool) where
       }))
 
   -- usage 3, 4 or 7, and no other
-  pub header_a_exactly : header_aAt o bs ≡ cond (eqb (field o 3 bs) 3) (flagged Arch) (cond (eqb (field o 3 bs) 4) (flagged Smsch) (cond (eqb (field o 3 bs) 7) (flagged Pch) (refuses 3)))
-  unfolding header_aAt
+  pub header_a_exactly : header_a_at o bs ≡ cond (eqb (field o 3 bs) 3) (flagged Arch) (cond (eqb (field o 3 bs) 4) (flagged Smsch) (cond (eqb (field o 3 bs) 7) (flagged Pch) (refuses 3)))
+  unfolding header_a_at
   header_a_exactly = go (eqb (field o 3 bs) 3) (eqb (field o 3 bs) 4) (eqb (field o 3 bs) 7)
     where
       go : (a s p : Bool) → and_then (cond a (gives Arch) (cond s (gives Smsch) (cond p (gives Pch) (refuses 3)))) flagged ≡ cond a (flagged Arch) (cond s (flagged Smsch) (cond p (flagged Pch) (refuses 3)))

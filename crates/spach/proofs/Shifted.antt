@@ -14,7 +14,7 @@ use Rattle.spach.specs.declared.Channel.{Channel}
 use Rattle.spach.specs.declared.HeaderA.{HeaderA}
 use Rattle.spach.specs.declared.Address.{Address}
 use Rattle.spach.specs.Refusal.{Outcome, gives, refuses, refuse, and_then}
-use Rattle.spach.specs.Header.{is_set, channel_of, header_aAt, address_at}
+use Rattle.spach.specs.Header.{is_set, channel_of, header_a_at, address_at}
 
 module _ (o : ℕ) (bs : List Bool) where
   abbrev from : List Bool
@@ -40,14 +40,14 @@ module _ (o : ℕ) (bs : List Bool) where
     reader = record { offset = n };
   }
 
-  header_on : (x : Outcome Channel) (t : Bool) → and_then x (λ c. refuse t 6 (gives (header_read c (o + 7)))) ≡ and_then (and_then x (λ c. refuse t 6 (gives (header_read c 7)))) (λ a. gives (header_on a))
-  header_on (gives c) true = refl
-  header_on (gives c) false = refl
-  header_on (refuses n) t = refl
+  header_on_lem : (x : Outcome Channel) (t : Bool) → and_then x (λ c. refuse t 6 (gives (header_read c (o + 7)))) ≡ and_then (and_then x (λ c. refuse t 6 (gives (header_read c 7)))) (λ a. gives (header_on a))
+  header_on_lem (gives c) true = refl
+  header_on_lem (gives c) false = refl
+  header_on_lem (refuses n) t = refl
 
-  pub header_shifts : header_aAt o bs ≡ and_then (header_aAt 0 from) (λ a. gives (header_on a))
-  unfolding header_aAt
-  header_shifts = rw (field_first 3, field_from 3 1, field_from 4 1, field_from 5 1, field_from 6 1) (header_on (channel_of (field 0 3 from)) (is_set 6 from))
+  pub header_shifts : header_a_at o bs ≡ and_then (header_a_at 0 from) (λ a. gives (header_on a))
+  unfolding header_a_at
+  header_shifts = rw (field_first 3, field_from 3 1, field_from 4 1, field_from 5 1, field_from 6 1) (header_on_lem (channel_of (field 0 3 from)) (is_set 6 from))
 
   -- an address with its cursor o further
   abbrev pub address_on : Address → Address

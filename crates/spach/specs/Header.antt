@@ -70,8 +70,8 @@ abbrev pub channel_of : ℕ → Outcome Channel
 channel_of u = cond (eqb u 3) (gives Arch) (cond (eqb u 4) (gives Smsch) (cond (eqb u 7) (gives Pch) (refuses 3)))
 
 -- header A at offset o: usage not 3, 4, 7 3; fourth flag 6
-unfoldable pub header_aAt : ℕ → List Bool → Outcome HeaderA
-header_aAt o bs =
+unfoldable pub header_a_at : ℕ → List Bool → Outcome HeaderA
+header_a_at o bs =
     and_then (channel_of (field o 3 bs)) (λ c.
     refuse (is_set (o + 6) bs) 6
     (gives
@@ -113,9 +113,9 @@ channel_answer (channels.Channel c) = gives c
 channel_answer (channels.Refused e) = refuses (number_of e)
 
 -- header A, or its refusal
-abbrev pub header_aAnswer : HeaderAAnswer → Outcome HeaderA
-header_aAnswer (headers.Header h) = gives h
-header_aAnswer (headers.Refused e) = refuses (number_of e)
+abbrev pub header_a_answer : HeaderAAnswer → Outcome HeaderA
+header_a_answer (headers.Header h) = gives h
+header_a_answer (headers.Refused e) = refuses (number_of e)
 
 -- an address, or its refusal
 abbrev pub address_answer : AddressAnswer → Outcome Address

@@ -1,11 +1,13 @@
 // What every SPACH frame has: refusals, channel and flags, header A and the address, and the cursor that reads them.
 // Ported from link/spach.rs (chrismoos/136-bts 7c60b63bf4, Apache-2.0) and changed: see NOTICE.
+#![tactic(auto)]
+
 ghost use Rattle.std.specs.Prelude.{◌≡◌, ◌+◌, ◌^◌, ◌<◌};
 ghost use Rattle.field.specs.Bits.{bits_of, field};
 ghost use Rattle.field.specs.Spans.{Placed, Run};
 ghost use Rattle.spach.specs.Refusal.{number_of, verdict_of};
 ghost use Rattle.spach.specs.Identity.{identity_answer, check_identity, accept_identity};
-ghost use Rattle.spach.specs.Header.{usage_of, channel_answer, channel_of, header_aAnswer, header_aAt, address_answer, identity_at, address_at};
+ghost use Rattle.spach.specs.Header.{usage_of, channel_answer, channel_of, header_a_answer, header_a_at, address_answer, identity_at, address_at};
 
 use rach::MobileIdentity;
 
@@ -185,7 +187,7 @@ pub enum HeaderAAnswer {
 // Header A at the cursor, taken as one number. Its flags lack the reservation response, which header B has.
 pub fn read_header_a(octets: &[u8], reader: Reader) -> HeaderAAnswer
     requires { Run octets.now reader.offset 7 }
-    ensures { header_aAnswer result ≡ header_aAt reader.offset (bits_of octets.now) }
+    ensures { header_a_answer result ≡ header_a_at reader.offset (bits_of octets.now) }
 {
     let taken = reader.take(octets, 7);
     let bits = taken.value;

@@ -1,4 +1,6 @@
 // Tokens are numbers of a rising counter that stops at 2^64 - 1.
+#![tactic(auto)]
+
 ghost use Rattle.std.specs.Prelude.{◌≡◌};
 ghost use Rattle.token.specs.Token.{number_after, fewer_than};
 

@@ -18,7 +18,7 @@ use Rattle.rach.specs.declared.MobileIdentity.{MobileIdentity}
 use Rattle.rach.specs.declared.MobileIdentity.TheVariants.{Tmsi20}
 use Rattle.spach.specs.declared.Channel.TheVariants.{Arch}
 use Rattle.spach.specs.Refusal.{refuses}
-use Rattle.spach.specs.Header.{header_aAt, address_at}
+use Rattle.spach.specs.Header.{header_a_at, address_at}
 use Rattle.arq.specs.declared.ArqFrame.{ArqFrame}
 use Rattle.arq.specs.Frame.{packed, begin_frame, continue_frame}
 use Rattle.arq.specs.Encode.{encode_of}
@@ -122,7 +122,7 @@ calls = accepted ++ started ++ continued
 
 -- the Begin was sent
 begin-sent : Sent sender lends calls (widened begin)
-unfolding calls run_alone octets bits_of bits value field layout up_to any_set same in_range encodable packed begin_frame continue_frame encode_of decode_of header_aAt address_at count_of frame_of ones ones_in count_trailing_zeros free_echo done_of settle_of fate_of step walk walked grant_of accepts enqueue_of packed_of choose prepare_of submitted_at submitted_of
+unfolding calls run_alone octets bits_of bits value field layout up_to any_set same in_range encodable packed begin_frame continue_frame encode_of decode_of header_a_at address_at count_of frame_of ones ones_in count_trailing_zeros free_echo done_of settle_of fate_of step walk walked grant_of accepts enqueue_of packed_of choose prepare_of submitted_at submitted_of
 begin-sent = record {
   earlier = accepted;
   call = Prepare 20 100;
@@ -135,7 +135,7 @@ begin-sent = record {
 
 -- so was the neighbour's Continue, later
 other_sent : Sent sender lends calls other_continue
-unfolding calls run_alone octets bits_of bits value field layout up_to any_set same in_range encodable packed begin_frame continue_frame encode_of decode_of header_aAt address_at count_of frame_of ones ones_in count_trailing_zeros free_echo done_of settle_of fate_of step walk walked grant_of accepts enqueue_of packed_of choose prepare_of submitted_at submitted_of
+unfolding calls run_alone octets bits_of bits value field layout up_to any_set same in_range encodable packed begin_frame continue_frame encode_of decode_of header_a_at address_at count_of frame_of ones ones_in count_trailing_zeros free_echo done_of settle_of fate_of step walk walked grant_of accepts enqueue_of packed_of choose prepare_of submitted_at submitted_of
 other_sent = record {
   earlier = accepted ++ started ++ Prepare 22 180 ∷ Submitted (token_of 100 104 1) 22 180 ∷ [];
   call = Prepare 23 220;
@@ -148,7 +148,7 @@ other_sent = record {
 
 -- and the gate's own
 continue-sent : Sent sender lends calls continue
-unfolding calls run_alone octets bits_of bits value field layout up_to any_set same in_range encodable packed begin_frame continue_frame encode_of decode_of header_aAt address_at count_of frame_of ones ones_in count_trailing_zeros free_echo done_of settle_of fate_of step walk walked grant_of accepts enqueue_of packed_of choose prepare_of submitted_at submitted_of
+unfolding calls run_alone octets bits_of bits value field layout up_to any_set same in_range encodable packed begin_frame continue_frame encode_of decode_of header_a_at address_at count_of frame_of ones ones_in count_trailing_zeros free_echo done_of settle_of fate_of step walk walked grant_of accepts enqueue_of packed_of choose prepare_of submitted_at submitted_of
 continue-sent = record {
   earlier = accepted ++ started;
   call = Prepare 22 180;
@@ -161,7 +161,7 @@ continue-sent = record {
 
 -- in time
 in_time : InTime (times_of begin-sent) (times_of continue-sent)
-unfolding begin-sent continue-sent run_alone octets bits_of bits value field layout up_to any_set same in_range encodable packed begin_frame continue_frame encode_of decode_of header_aAt address_at count_of frame_of ones ones_in count_trailing_zeros free_echo done_of settle_of fate_of step walk walked grant_of accepts enqueue_of packed_of choose prepare_of submitted_at submitted_of
+unfolding begin-sent continue-sent run_alone octets bits_of bits value field layout up_to any_set same in_range encodable packed begin_frame continue_frame encode_of decode_of header_a_at address_at count_of frame_of ones ones_in count_trailing_zeros free_echo done_of settle_of fate_of step walk walked grant_of accepts enqueue_of packed_of choose prepare_of submitted_at submitted_of
 in_time = (lit≤ tt, lit≤ tt)
 
 -- the gate hears its Begin, and all of the neighbour's order
@@ -178,7 +178,7 @@ rest = widened other_begin ∷ other_continue ∷ continue ∷ []
 
 -- so it listens as `Gate` asks
 listens : Listens (Sent sender lends calls) (λ f s. times_of s) mine (widened begin) (before ++ last ∷ [])
-unfolding before last heard octets bits_of bits value field layout up_to any_set in_range encodable packed begin_frame continue_frame encode_of decode_of header_aAt address_at
+unfolding before last heard octets bits_of bits value field layout up_to any_set in_range encodable packed begin_frame continue_frame encode_of decode_of header_a_at address_at
 listens = record { rest = rest; first = refl; own = record { kind = refl; identity = refl }; lone = lone; begin = begin-sent; pieces = pieces }
   where
     three : (P : ArqFrame → Type 0) → P (widened other_begin) → P other_continue → P continue → (f : ArqFrame) → Memᴰ f rest → P f
@@ -230,7 +230,7 @@ gets_own = gate sender lends calls mine (widened begin) (before ++ last ∷ []) 
 
 -- which is this
 delivered : Delivers order (replicate 255 0) (answer before last)
-unfolding before last push_of push_frame push_continue finish assembled gathered slot_at put_slot same ones ones_in decode_of header_aAt address_at bits_of bits value octets field up_to layout any_set encode_of begin_frame continue_frame packed encodable in_range
+unfolding before last push_of push_frame push_continue finish assembled gathered slot_at put_slot same ones ones_in decode_of header_a_at address_at bits_of bits value octets field up_to layout any_set encode_of begin_frame continue_frame packed encodable in_range
 delivered = record { answer = refl; buffer = refl }
 
 -- ---- the old start-up
@@ -241,7 +241,7 @@ first = Enqueue (request 1 5000) order 20 100 ∷ Prepare 20 100 ∷ Submitted (
 
 -- the Begin
 first_sent : Sent sender lends first (widened begin)
-unfolding first run_alone octets bits_of bits value field layout up_to any_set same in_range encodable packed begin_frame continue_frame encode_of decode_of header_aAt address_at count_of frame_of ones ones_in count_trailing_zeros free_echo done_of settle_of fate_of step walk walked grant_of accepts enqueue_of packed_of choose prepare_of submitted_at submitted_of
+unfolding first run_alone octets bits_of bits value field layout up_to any_set same in_range encodable packed begin_frame continue_frame encode_of decode_of header_a_at address_at count_of frame_of ones ones_in count_trailing_zeros free_echo done_of settle_of fate_of step walk walked grant_of accepts enqueue_of packed_of choose prepare_of submitted_at submitted_of
 first_sent = record {
   earlier = Enqueue (request 1 5000) order 20 100 ∷ [];
   call = Prepare 20 100;
@@ -271,7 +271,7 @@ stray = cut_of other others 0 1 true
 
 -- its Continue
 second_sent : Sent old lends second stray
-unfolding second run_alone octets bits_of bits value field layout up_to any_set same in_range encodable packed begin_frame continue_frame encode_of decode_of header_aAt address_at count_of frame_of ones ones_in count_trailing_zeros free_echo done_of settle_of fate_of step walk walked grant_of accepts enqueue_of packed_of choose prepare_of submitted_at submitted_of
+unfolding second run_alone octets bits_of bits value field layout up_to any_set same in_range encodable packed begin_frame continue_frame encode_of decode_of header_a_at address_at count_of frame_of ones ones_in count_trailing_zeros free_echo done_of settle_of fate_of step walk walked grant_of accepts enqueue_of packed_of choose prepare_of submitted_at submitted_of
 second_sent = record {
   earlier = Enqueue (request 2 9000) others 21 200 ∷ Prepare 21 200 ∷ Submitted (token_of 100 101 0) 21 200 ∷ [];
   call = Prepare 22 240;
@@ -284,17 +284,17 @@ second_sent = record {
 
 -- it is in time
 stray_in_time : InTime (times_of first_sent) (times_of second_sent)
-unfolding first_sent second_sent run_alone octets bits_of bits value field layout up_to any_set same in_range encodable packed begin_frame continue_frame encode_of decode_of header_aAt address_at count_of frame_of ones ones_in count_trailing_zeros free_echo done_of settle_of fate_of step walk walked grant_of accepts enqueue_of packed_of choose prepare_of submitted_at submitted_of
+unfolding first_sent second_sent run_alone octets bits_of bits value field layout up_to any_set same in_range encodable packed begin_frame continue_frame encode_of decode_of header_a_at address_at count_of frame_of ones ones_in count_trailing_zeros free_echo done_of settle_of fate_of step walk walked grant_of accepts enqueue_of packed_of choose prepare_of submitted_at submitted_of
 stray_in_time = (lit≤ tt, lit≤ tt)
 
 -- and the gate, if its own Continue is lost, delivers the first half of its own order with the second half of the neighbour's
 misled : Delivers (1 ∷ 2 ∷ 3 ∷ 4 ∷ 5 ∷ 6 ∷ 7 ∷ 108 ∷ 109 ∷ 110 ∷ []) (replicate 255 0) (answer (push first_sent.frame ∷ []) (push second_sent.frame))
-unfolding first_sent second_sent push_of push_frame push_continue finish assembled gathered slot_at put_slot same ones ones_in decode_of header_aAt address_at bits_of bits value octets field up_to layout any_set encode_of begin_frame continue_frame packed encodable in_range
+unfolding first_sent second_sent push_of push_frame push_continue finish assembled gathered slot_at put_slot same ones ones_in decode_of header_a_at address_at bits_of bits value octets field up_to layout any_set encode_of begin_frame continue_frame packed encodable in_range
 misled = record { answer = refl; buffer = refl }
 
 -- of such a second sender `GateOfTwo` does not speak: it did not start late
 not_late : StartsLate sender lends first old lends second → ⊥
-unfolding first second second_sent run_alone octets bits_of bits value field layout up_to any_set same in_range encodable packed begin_frame continue_frame encode_of decode_of header_aAt address_at count_of frame_of ones ones_in count_trailing_zeros free_echo done_of settle_of fate_of step walk walked grant_of accepts enqueue_of packed_of choose prepare_of submitted_at submitted_of
+unfolding first second second_sent run_alone octets bits_of bits value field layout up_to any_set same in_range encodable packed begin_frame continue_frame encode_of decode_of header_a_at address_at count_of frame_of ones ones_in count_trailing_zeros free_echo done_of settle_of fate_of step walk walked grant_of accepts enqueue_of packed_of choose prepare_of submitted_at submitted_of
 not_late h = let z : 6000 ≤ 240 = late_frames sender old lends lends first second_sent.earlier [] (Prepare 22 240) second_sent.frame made old_made h second_sent.prepared 0 in omega arith
 
 -- ---- a late start
@@ -329,7 +329,7 @@ at_5000 u c echo deadline n d t = let q = (the_one (after u c).transfers n t).1 
 
 -- so by then each taking of it is over
 over : Past sender (told sender lends first) 6000
-unfolding first told Each run_alone octets bits_of bits value field layout up_to any_set same in_range encodable packed begin_frame continue_frame encode_of decode_of header_aAt address_at count_of frame_of ones ones_in count_trailing_zeros free_echo done_of settle_of fate_of step walk walked grant_of accepts enqueue_of packed_of choose prepare_of submitted_at submitted_of
+unfolding first told Each run_alone octets bits_of bits value field layout up_to any_set same in_range encodable packed begin_frame continue_frame encode_of decode_of header_a_at address_at count_of frame_of ones ones_in count_trailing_zeros free_echo done_of settle_of fate_of step walk walked grant_of accepts enqueue_of packed_of choose prepare_of submitted_at submitted_of
 over echo =
     let a = does sender lends (Enqueue (request 1 5000) order 20 100) in
     let b = does a.sender a.lent (Prepare 20 100) in
@@ -346,12 +346,12 @@ over echo =
 
 -- and it starts late
 late : StartsLate sender lends first new lends patient
-unfolding patient told Each run_alone octets bits_of bits value field layout up_to any_set same in_range encodable packed begin_frame continue_frame encode_of decode_of header_aAt address_at count_of frame_of ones ones_in count_trailing_zeros free_echo done_of settle_of fate_of step walk walked grant_of accepts enqueue_of packed_of choose prepare_of submitted_at submitted_of
+unfolding patient told Each run_alone octets bits_of bits value field layout up_to any_set same in_range encodable packed begin_frame continue_frame encode_of decode_of header_a_at address_at count_of frame_of ones ones_in count_trailing_zeros free_echo done_of settle_of fate_of step walk walked grant_of accepts enqueue_of packed_of choose prepare_of submitted_at submitted_of
 late = (λ h. let z : 400 ≤ 21 = h in absurd (omega arith), (λ h. over, (λ h. over, tt)))
 
 -- the first one's Continue
 first_continue : Sent sender lends first continue
-unfolding first run_alone octets bits_of bits value field layout up_to any_set same in_range encodable packed begin_frame continue_frame encode_of decode_of header_aAt address_at count_of frame_of ones ones_in count_trailing_zeros free_echo done_of settle_of fate_of step walk walked grant_of accepts enqueue_of packed_of choose prepare_of submitted_at submitted_of
+unfolding first run_alone octets bits_of bits value field layout up_to any_set same in_range encodable packed begin_frame continue_frame encode_of decode_of header_a_at address_at count_of frame_of ones ones_in count_trailing_zeros free_echo done_of settle_of fate_of step walk walked grant_of accepts enqueue_of packed_of choose prepare_of submitted_at submitted_of
 first_continue = record {
   earlier = Enqueue (request 1 5000) order 20 100 ∷ Prepare 20 100 ∷ Submitted (token_of 100 101 0) 20 100 ∷ [];
   call = Prepare 21 140;
@@ -364,7 +364,7 @@ first_continue = record {
 
 -- in time
 first_in_time : InTime (times_of first_sent) (times_of first_continue)
-unfolding first_sent first_continue run_alone octets bits_of bits value field layout up_to any_set same in_range encodable packed begin_frame continue_frame encode_of decode_of header_aAt address_at count_of frame_of ones ones_in count_trailing_zeros free_echo done_of settle_of fate_of step walk walked grant_of accepts enqueue_of packed_of choose prepare_of submitted_at submitted_of
+unfolding first_sent first_continue run_alone octets bits_of bits value field layout up_to any_set same in_range encodable packed begin_frame continue_frame encode_of decode_of header_a_at address_at count_of frame_of ones ones_in count_trailing_zeros free_echo done_of settle_of fate_of step walk walked grant_of accepts enqueue_of packed_of choose prepare_of submitted_at submitted_of
 first_in_time = (lit≤ tt, lit≤ tt)
 
 -- the neighbour's Begin, under echo 0 again
@@ -373,7 +373,7 @@ next_begin = cut_of other others 0 0 false
 
 -- is the second one's
 patient_sent : Sent new lends patient (widened next_begin)
-unfolding patient run_alone octets bits_of bits value field layout up_to any_set same in_range encodable packed begin_frame continue_frame encode_of decode_of header_aAt address_at count_of frame_of ones ones_in count_trailing_zeros free_echo done_of settle_of fate_of step walk walked grant_of accepts enqueue_of packed_of choose prepare_of submitted_at submitted_of
+unfolding patient run_alone octets bits_of bits value field layout up_to any_set same in_range encodable packed begin_frame continue_frame encode_of decode_of header_a_at address_at count_of frame_of ones ones_in count_trailing_zeros free_echo done_of settle_of fate_of step walk walked grant_of accepts enqueue_of packed_of choose prepare_of submitted_at submitted_of
 patient_sent = record {
   earlier = Enqueue (request 2 9000) others 21 200 ∷ Enqueue (request 2 9000) others 400 6000 ∷ [];
   call = Prepare 400 6000;
@@ -390,7 +390,7 @@ three_pushes = push first_sent.frame ∷ push first_continue.frame ∷ push pati
 
 -- so it listens as `GateOfTwo` asks
 listens_to_two : Listens (SentByTwo sender new lends lends first patient) (λ f s. times_of_two s) mine (widened begin) three_pushes
-unfolding three_pushes first_sent first_continue patient_sent heard octets bits_of bits value field layout up_to any_set in_range encodable packed begin_frame continue_frame encode_of decode_of header_aAt address_at
+unfolding three_pushes first_sent first_continue patient_sent heard octets bits_of bits value field layout up_to any_set in_range encodable packed begin_frame continue_frame encode_of decode_of header_a_at address_at
 listens_to_two = record { rest = after_it; first = refl; own = record { kind = refl; identity = refl }; lone = lone; begin = inl first_sent; pieces = pieces }
   where
     after_it : List ArqFrame

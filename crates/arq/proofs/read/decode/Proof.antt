@@ -2,7 +2,7 @@
 use mathlib.Core.Path.{sym, ap, ◌∙◌}
 use borrow.Author.Rules.{rules}
 use Rattle.spach.specs.Answered.{answered}
-use Rattle.spach.specs.Header.{header_aAnswer}
+use Rattle.spach.specs.Header.{header_a_answer}
 use Rattle.arq.specs.Frame.{blank_frame}
 use Rattle.arq.proofs.Decoded.{decode-length, decode_padding, decode-header}
 use Rattle.arq.proofs.read.decode.Statement.{statement}
@@ -42,12 +42,12 @@ refused-requires-3 c κs = search rules
 returns-3 : tie.Need-returns-3
 returns-3 c =
     c.decode-usage.ensures
-    ∙ ap (answered blank_frame) (decode-header c.before.before.before.before.before.before.before.before.before.args.octets.now c.before.before.before.before.before.before.before.if1.false c.before.before.before.before.before.before.read-field.ensures.0 c.before.before.before.before.before.if2.false (sym (ap header_aAnswer c.before.before.answer.given.1) ∙ c.before.before.before.before.read-header-a.ensures))
+    ∙ ap (answered blank_frame) (decode-header c.before.before.before.before.before.before.before.before.before.args.octets.now c.before.before.before.before.before.before.before.if1.false c.before.before.before.before.before.before.read-field.ensures.0 c.before.before.before.before.before.if2.false (sym (ap header_a_answer c.before.before.answer.given.1) ∙ c.before.before.before.before.read-header-a.ensures))
 
 returns-4 : tie.Need-returns-4
 returns-4 c =
     c.refused3.ensures
-    ∙ ap (answered blank_frame) (decode-header c.before.before.before.before.before.before.before.before.before.args.octets.now c.before.before.before.before.before.before.before.if1.false c.before.before.before.before.before.before.read-field.ensures.0 c.before.before.before.before.before.if2.false (sym (ap header_aAnswer c.before.before.answer2.given.1) ∙ c.before.before.before.before.read-header-a.ensures))
+    ∙ ap (answered blank_frame) (decode-header c.before.before.before.before.before.before.before.before.before.args.octets.now c.before.before.before.before.before.before.before.if1.false c.before.before.before.before.before.before.read-field.ensures.0 c.before.before.before.before.before.if2.false (sym (ap header_a_answer c.before.before.answer2.given.1) ∙ c.before.before.before.before.read-header-a.ensures))
 
 pub decode-spec : {M : Type 1} → statement M
 decode-spec =

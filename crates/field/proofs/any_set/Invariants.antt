@@ -1,0 +1,14 @@
+-- `field::any_set` meets its contract. The invariant: none of the bits passed is set. Assumes nothing.
+use mathlib.Core.Path.{◌≡◌}
+use mathlib.Core.Bool.{false}
+use Prim.Native.Nat.{◌≤◌, ◌-◌}
+use lib.ListN.{take, drop}
+use Rattle.field.specs.Bits.{bits_of}
+use Rattle.field.specs.Layout.{any_set}
+use Rattle.field.proofs.any_set.Given as goal
+
+abbrev pub invariant-loop-k : goal.invariant-loop-k
+invariant-loop-k l = (l.k ≤ l.n) × (any_set (take l.k (drop l.o (bits_of l.s))) ≡ false)
+
+abbrev pub decreases-loop-k : goal.decreases-loop-k
+decreases-loop-k l = l.n - l.k
