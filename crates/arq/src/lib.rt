@@ -1,5 +1,7 @@
 // ArqFrame: encode, cut and decode.
 // Ported from link/spach/arq.rs (chrismoos/136-bts 7c60b63bf4, Apache-2.0) and changed: see NOTICE.
+#![tactic(auto)]
+
 pub mod check;
 pub mod cut;
 pub mod frame;
@@ -22,13 +24,13 @@ const INFORMATION_BITS: usize = 109;
 
 pub const CONTINUE_DATA_BITS: usize = 79;
 
-#[derive(Drop)]
+#[derive(Clone, Copy)]
 pub enum ResponseMode {
     Contention,
     Reservation,
 }
 
-#[derive(Drop)]
+#[derive(Clone, Copy)]
 pub struct ArqHeader {
     pub channel: Channel,
     pub flags: HeaderFlags,
@@ -37,14 +39,14 @@ pub struct ArqHeader {
     pub response_mode: ResponseMode,
 }
 
-#[derive(Drop)]
+#[derive(Clone, Copy)]
 pub enum FrameKind {
     Begin,
     Continue,
 }
 
 // A frame of either kind. Only the fields of its kind are read.
-#[derive(Drop)]
+#[derive(Clone, Copy)]
 pub struct ArqFrame {
     pub kind: FrameKind,
     pub header: ArqHeader,
@@ -58,26 +60,26 @@ pub struct ArqFrame {
 }
 
 // 109 bits, first bit at the top of the first octet; the last three bits are padding.
-#[derive(Drop)]
+#[derive(Clone, Copy)]
 pub struct PackedFrame {
     pub octets: [u8; 14],
 }
 
 // What decode and the cut answer: beside a refusal stands the blank frame.
-#[derive(Drop)]
+#[derive(Clone, Copy)]
 pub struct FrameAnswer {
     pub verdict: Verdict,
     pub frame: ArqFrame,
 }
 
-#[derive(Drop)]
+#[derive(Clone, Copy)]
 pub struct Encoded {
     pub verdict: Verdict,
     pub frame: PackedFrame,
 }
 
 // How many frames a message needs, or a refusal.
-#[derive(Drop)]
+#[derive(Clone, Copy)]
 pub enum CountAnswer {
     Frames(usize),
     Refused(SpachError),

@@ -19,23 +19,23 @@ fn inactivity_blocks() -> u64
 }
 
 // Tells the transactions of one timer apart: a number of its counter.
-#[derive(Drop)]
+#[derive(Clone, Copy)]
 pub struct TransactionToken(pub u64);
 
-#[derive(Drop)]
+#[derive(Clone, Copy)]
 pub enum InactivityAction {
     None,
     RequestUnsolicitedStatus,
     Terminate,
 }
 
-#[derive(Drop)]
+#[derive(Clone, Copy)]
 pub enum StatusResult {
     Sent,
     Failed,
 }
 
-#[derive(Drop)]
+#[derive(Clone, Copy)]
 pub enum InactivityError {
     ClockBackwards,
 }
@@ -52,7 +52,7 @@ impl InactivityError {
 }
 
 // Why a call of the timer or of the procedure is refused.
-#[derive(Drop)]
+#[derive(Clone, Copy)]
 pub enum ProcedureError {
     Wire(SpachError),
     Clock(InactivityError),
@@ -70,7 +70,7 @@ impl ProcedureError {
     }
 }
 
-#[derive(Drop)]
+#[derive(Clone, Copy)]
 pub enum State {
     Idle,
     Waiting { since_block: u64 },
@@ -78,7 +78,7 @@ pub enum State {
     FinalWait { since_block: u64 },
 }
 
-#[derive(Drop)]
+#[derive(Clone, Copy)]
 pub struct ArqInactivity {
     pub state: State,
     pub last_block: u64,
@@ -88,44 +88,44 @@ pub struct ArqInactivity {
 }
 
 // An action, and the timer beside it.
-#[derive(Drop)]
+#[derive(Clone, Copy)]
 pub struct Turn {
     pub timer: ArqInactivity,
     pub action: InactivityAction,
 }
 
-#[derive(Drop)]
+#[derive(Clone, Copy)]
 pub enum ClockAnswer {
     Moved,
     Refused(InactivityError),
 }
 
-#[derive(Drop)]
+#[derive(Clone, Copy)]
 pub struct Observed {
     pub timer: ArqInactivity,
     pub answer: ClockAnswer,
 }
 
-#[derive(Drop)]
+#[derive(Clone, Copy)]
 pub struct Reset {
     pub timer: ArqInactivity,
     pub verdict: Verdict,
 }
 
-#[derive(Drop)]
+#[derive(Clone, Copy)]
 pub enum ActionAnswer {
     Action(InactivityAction),
     Refused(ProcedureError),
 }
 
-#[derive(Drop)]
+#[derive(Clone, Copy)]
 pub struct Acted {
     pub timer: ArqInactivity,
     pub answer: ActionAnswer,
 }
 
 // The timer at its moved clock, or why the call is refused.
-#[derive(Drop)]
+#[derive(Clone, Copy)]
 pub enum Admission {
     Admitted(ArqInactivity),
     Refused(ProcedureError),

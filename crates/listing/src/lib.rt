@@ -18,7 +18,7 @@ use receiver::{ArqReassembler, Delivery, Made};
 use spach::IdentityAnswer;
 
 // The receiver, and how many frames were pushed and messages delivered.
-#[derive(Drop)]
+#[derive(Clone, Copy)]
 pub struct Session {
     pub receiver: ArqReassembler,
     pub frames: u64,
@@ -26,7 +26,7 @@ pub struct Session {
 }
 
 // The session after frames whose lines are written, and the place after them.
-#[derive(Drop)]
+#[derive(Clone, Copy)]
 pub struct Shown {
     pub session: Session,
     pub end: usize,

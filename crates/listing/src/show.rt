@@ -13,7 +13,7 @@ use spach::Verdict;
 
 // What a chunk came to: the session, how many octets are left to read, how many of the chunk are a cut frame, whether the
 // input may go on, and whether it could not be read on.
-#[derive(Drop)]
+#[derive(Clone, Copy)]
 struct Turn {
     pub session: Session,
     pub left: u64,
@@ -23,7 +23,7 @@ struct Turn {
 }
 
 // How many octets were read, and whether that was cut short by a read that failed.
-#[derive(Drop)]
+#[derive(Clone, Copy)]
 struct Got {
     pub count: usize,
     pub failed: bool,

@@ -14,14 +14,14 @@ use rach::MobileIdentity;
 use receiver::{ArqReassembler, Delivery, StatusRequest};
 use spach::{SpachError, Verdict};
 
-#[derive(Drop)]
+#[derive(Clone, Copy)]
 pub enum StatusKind {
     Solicited,
     Unsolicited,
 }
 
 // A status to send, and what its result is reported with.
-#[derive(Drop)]
+#[derive(Clone, Copy)]
 pub struct StatusTransmission {
     pub request: StatusRequest,
     pub token: TransactionToken,
@@ -29,13 +29,13 @@ pub struct StatusTransmission {
     pub complete_at_poll: bool,
 }
 
-#[derive(Drop)]
+#[derive(Clone, Copy)]
 pub enum Transmission {
     Nothing,
     Status(StatusTransmission),
 }
 
-#[derive(Drop)]
+#[derive(Clone, Copy)]
 pub enum ReceiveEvent {
     Ignored,
     Accepted {
@@ -44,14 +44,14 @@ pub enum ReceiveEvent {
     },
 }
 
-#[derive(Drop)]
+#[derive(Clone, Copy)]
 pub enum TimerEvent {
     None,
     SendStatus(StatusTransmission),
     Terminated,
 }
 
-#[derive(Drop)]
+#[derive(Clone, Copy)]
 pub enum SendEvent {
     Ignored,
     Pending,
@@ -59,55 +59,55 @@ pub enum SendEvent {
     Failed,
 }
 
-#[derive(Drop)]
+#[derive(Clone, Copy)]
 pub struct ArqProcedure {
     pub receiver: ArqReassembler,
     pub inactivity: ArqInactivity,
 }
 
-#[derive(Drop)]
+#[derive(Clone, Copy)]
 pub struct Made {
     pub verdict: Verdict,
     pub procedure: ArqProcedure,
 }
 
-#[derive(Drop)]
+#[derive(Clone, Copy)]
 pub struct Reset {
     pub procedure: ArqProcedure,
     pub verdict: Verdict,
 }
 
-#[derive(Drop)]
+#[derive(Clone, Copy)]
 pub enum ReceiveAnswer {
     Event(ReceiveEvent),
     Refused(ProcedureError),
 }
 
-#[derive(Drop)]
+#[derive(Clone, Copy)]
 pub struct Received {
     pub procedure: ArqProcedure,
     pub answer: ReceiveAnswer,
 }
 
-#[derive(Drop)]
+#[derive(Clone, Copy)]
 pub enum TimerAnswer {
     Event(TimerEvent),
     Refused(ProcedureError),
 }
 
-#[derive(Drop)]
+#[derive(Clone, Copy)]
 pub struct Advanced {
     pub procedure: ArqProcedure,
     pub answer: TimerAnswer,
 }
 
-#[derive(Drop)]
+#[derive(Clone, Copy)]
 pub enum SendAnswer {
     Event(SendEvent),
     Refused(ProcedureError),
 }
 
-#[derive(Drop)]
+#[derive(Clone, Copy)]
 pub struct Sent {
     pub procedure: ArqProcedure,
     pub answer: SendAnswer,

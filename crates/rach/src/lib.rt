@@ -5,7 +5,7 @@
 ghost use Rattle.std.specs.Prelude.{◌≡◌, ◌^◌, ◌<◌, ◌≤◌};
 ghost use Rattle.rach.specs.Identity.{width_of, in_range, parts_of, identity_of, same, encodable};
 
-#[derive(Drop)]
+#[derive(Clone, Copy)]
 pub enum MobileIdentity {
     Tmsi20(u32),
     Tmsi24(u32),
@@ -13,7 +13,7 @@ pub enum MobileIdentity {
     Imsi50(u64),
 }
 
-#[derive(Drop)]
+#[derive(Clone, Copy)]
 pub struct IdentityParts {
     pub identity_type: u8,
     pub width: usize,

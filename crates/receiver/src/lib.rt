@@ -14,7 +14,7 @@ use rach::MobileIdentity;
 use spach::{Channel, HeaderFlags, SpachError, Verdict};
 
 // What a Begin opened: its header's channel, flags and echo, its octet count and its data. Without one nothing is held.
-#[derive(Drop)]
+#[derive(Clone, Copy)]
 pub struct Transaction {
     pub held: bool,
     pub channel: Channel,
@@ -25,7 +25,7 @@ pub struct Transaction {
 }
 
 // The data of Continue k lies in octets 10k to 10k + 9 of the slots if bit k of the map is set.
-#[derive(Drop)]
+#[derive(Clone, Copy)]
 pub struct ArqReassembler {
     pub identity: MobileIdentity,
     pub transaction: Transaction,
@@ -34,14 +34,14 @@ pub struct ArqReassembler {
     pub delivered: bool,
 }
 
-#[derive(Drop)]
+#[derive(Clone, Copy)]
 pub struct Made {
     pub verdict: Verdict,
     pub receiver: ArqReassembler,
 }
 
 // A delivered message: its octets stand at the front of the buffer that was lent.
-#[derive(Drop)]
+#[derive(Clone, Copy)]
 pub struct SingleMessage {
     pub channel: Channel,
     pub flags: HeaderFlags,
@@ -49,37 +49,37 @@ pub struct SingleMessage {
     pub length: usize,
 }
 
-#[derive(Drop)]
+#[derive(Clone, Copy)]
 pub enum Delivery {
     Nothing,
     Message(SingleMessage),
 }
 
-#[derive(Drop)]
+#[derive(Clone, Copy)]
 pub struct ArqStatus {
     pub partial_echo: u8,
     pub received_frames: u32,
 }
 
-#[derive(Drop)]
+#[derive(Clone, Copy)]
 pub enum StatusAnswer {
     Nothing,
     Status(ArqStatus),
 }
 
-#[derive(Drop)]
+#[derive(Clone, Copy)]
 pub struct StatusRequest {
     pub status: ArqStatus,
     pub response_mode: ResponseMode,
 }
 
-#[derive(Drop)]
+#[derive(Clone, Copy)]
 pub enum Request {
     Nothing,
     Status(StatusRequest),
 }
 
-#[derive(Drop)]
+#[derive(Clone, Copy)]
 pub enum Reception {
     Ignored,
     Accepted {
@@ -88,13 +88,13 @@ pub enum Reception {
     },
 }
 
-#[derive(Drop)]
+#[derive(Clone, Copy)]
 pub enum PushAnswer {
     Reception(Reception),
     Refused(SpachError),
 }
 
-#[derive(Drop)]
+#[derive(Clone, Copy)]
 pub struct Pushed {
     pub receiver: ArqReassembler,
     pub answer: PushAnswer,

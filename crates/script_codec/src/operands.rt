@@ -7,7 +7,7 @@ use script_leaf::identities::Operand;
 use spach::{ChannelAnswer, HeaderFlags};
 
 // What a header operand names.
-#[derive(Drop)]
+#[derive(Clone, Copy)]
 pub enum HeaderOperand {
     Header(ArqHeader),
     Nothing,
@@ -55,14 +55,14 @@ pub fn header_at(script: &[u8], at: usize) -> HeaderOperand
     })
 }
 
-#[derive(Drop)]
+#[derive(Clone, Copy)]
 pub struct Cut {
     pub header: ArqHeader,
     pub identity: MobileIdentity,
 }
 
 // What a header and an identity operand name.
-#[derive(Drop)]
+#[derive(Clone, Copy)]
 pub enum CutOperand {
     Cut(Cut),
     Nothing,

@@ -7,7 +7,7 @@ use script_wire::Value;
 use spach::{IdentityAnswer, Verdict};
 
 // What an identity operand names.
-#[derive(Drop)]
+#[derive(Clone, Copy)]
 pub enum Operand {
     Identity(MobileIdentity),
     Nothing,

@@ -12,28 +12,28 @@ use script_leaf::identities::Operand;
 use spach::Verdict;
 
 // A script's procedure; if there is none, one that is not looked at.
-#[derive(Drop)]
+#[derive(Clone, Copy)]
 pub struct ProcedureSlot {
     pub present: bool,
     pub procedure: ArqProcedure,
 }
 
 // The slot after an operation, and how many octets it answered.
-#[derive(Drop)]
+#[derive(Clone, Copy)]
 pub struct Ran {
     pub slot: ProcedureSlot,
     pub answered: usize,
 }
 
 // The same of a procedure that is there.
-#[derive(Drop)]
+#[derive(Clone, Copy)]
 pub struct Done {
     pub procedure: ArqProcedure,
     pub answered: usize,
 }
 
 // A slot as PROCEDURE leaves it, and its number octet.
-#[derive(Drop)]
+#[derive(Clone, Copy)]
 pub struct Opened {
     pub slot: ProcedureSlot,
     pub number: u8,

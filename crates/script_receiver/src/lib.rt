@@ -10,14 +10,14 @@ use script_leaf::identities::Operand;
 use script_wire::Value;
 
 // A script's receiver; if there is none, a value that is not looked at.
-#[derive(Drop)]
+#[derive(Clone, Copy)]
 pub struct Machine {
     pub present: bool,
     pub receiver: ArqReassembler,
 }
 
 // The machine after an operation, and how many octets it answered.
-#[derive(Drop)]
+#[derive(Clone, Copy)]
 pub struct Ran {
     pub machine: Machine,
     pub answered: usize,

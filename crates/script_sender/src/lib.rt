@@ -10,20 +10,20 @@ ghost use Rattle.script_sender.specs.Machine.{Able};
 use sender::{Sender, Verdict};
 
 // An answer: so many of the octets.
-#[derive(Drop)]
+#[derive(Clone, Copy)]
 pub struct Reply {
     pub octets: [u8; 136],
     pub length: usize,
 }
 
-#[derive(Drop)]
+#[derive(Clone, Copy)]
 pub struct Done {
     pub sender: Sender,
     pub reply: Reply,
 }
 
 // The sender, once there is one, and how much of the memory is lent.
-#[derive(Drop)]
+#[derive(Clone, Copy)]
 pub struct Machine {
     pub held: bool,
     pub sender: Sender,
@@ -31,7 +31,7 @@ pub struct Machine {
     pub words: usize,
 }
 
-#[derive(Drop)]
+#[derive(Clone, Copy)]
 pub struct Ran {
     pub machine: Machine,
     pub reply: Reply,

@@ -43,7 +43,7 @@ fn told_push(answer: PushAnswer, octet: u64) -> u64 {
 }
 
 // The receiver after some pushes, and the sum of what was told.
-#[derive(Drop)]
+#[derive(Clone, Copy)]
 struct Heard {
     receiver: ArqReassembler,
     sum: u64,
@@ -79,7 +79,7 @@ pub fn pushes(frames: &[u8], round: u64) -> u64 {
 }
 
 // The procedure after a call, and what is told of it.
-#[derive(Drop)]
+#[derive(Clone, Copy)]
 struct Lived {
     procedure: ArqProcedure,
     told: u64,

@@ -3,7 +3,7 @@ ghost use Rattle.std.specs.Prelude.{◌≡◌, ◌+◌, ◌≤◌, length};
 
 use super::sums::{mixed, words_sum};
 
-#[derive(Drop)]
+#[derive(Clone, Copy)]
 struct Lanes {
     a: u64,
     b: u64,

@@ -5,7 +5,7 @@ use super::values::identity_octets;
 use transfer::{Blocks, Sets, Since, Transfer};
 
 // Whether there is a block, and the block or zero.
-#[derive(Drop)]
+#[derive(Clone, Copy)]
 pub struct SinceParts {
     pub held: bool,
     pub block: u64,

@@ -3,7 +3,7 @@ use rach::MobileIdentity;
 use transfer::{Addressee, CompletionAnswer, Confirmation, Event, NextEvent, PreparedFrame};
 
 // An event as an answer has it: its error is 0 unless it failed.
-#[derive(Drop)]
+#[derive(Clone, Copy)]
 pub struct EventParts {
     pub kind: u8,
     pub completion: u64,

@@ -68,7 +68,7 @@ pub fn put_all(s: &mut [u8], at: usize, src: &[u8])
 }
 
 // A value of an answer: how many octets it has, at most eight, and the number in them.
-#[derive(Drop)]
+#[derive(Clone, Copy)]
 pub struct Value(pub usize, pub u64);
 
 // Puts the value; the place after it.

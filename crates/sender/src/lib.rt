@@ -51,19 +51,19 @@ use transfer::{
 use walk::walk;
 
 // A prepared frame, if there is one.
-#[derive(Drop)]
+#[derive(Clone, Copy)]
 pub struct Selection {
     pub held: bool,
     pub frame: PreparedFrame,
 }
 
-#[derive(Drop)]
+#[derive(Clone, Copy)]
 pub struct EventSlot {
     pub event: Event,
 }
 
 // The live transfers are the first `pending` slots, the waiting events the first `waiting` ones.
-#[derive(Drop)]
+#[derive(Clone, Copy)]
 pub struct Sender {
     pub transfers: [Transfer; ECHO_VALUES],
     pub pending: usize,
@@ -82,79 +82,79 @@ pub struct Sender {
 
 // ---- answers: the sender afterwards, and what the call says
 
-#[derive(Drop)]
+#[derive(Clone, Copy)]
 pub enum Verdict {
     Accepted,
     Refused(Error),
 }
 
 // Of the constructor, `advance`, `submitted` and `refresh_waiting`.
-#[derive(Drop)]
+#[derive(Clone, Copy)]
 pub struct Moved {
     pub sender: Sender,
     pub verdict: Verdict,
 }
 
-#[derive(Drop)]
+#[derive(Clone, Copy)]
 pub enum EnqueueAnswer {
     Transfer(TransferToken),
     Refused(Error),
 }
 
 // What a request is given, or why it is refused.
-#[derive(Drop)]
+#[derive(Clone, Copy)]
 pub enum GrantAnswer {
     Granted { frames: u8, echo: u8 },
     Refused(Error),
 }
 
-#[derive(Drop)]
+#[derive(Clone, Copy)]
 pub struct Enqueued {
     pub sender: Sender,
     pub answer: EnqueueAnswer,
 }
 
 // Of `prepare` and `prepare_prioritized`: the frame, if there is one.
-#[derive(Drop)]
+#[derive(Clone, Copy)]
 pub struct Prepared {
     pub sender: Sender,
     pub verdict: Verdict,
     pub selection: Selection,
 }
 
-#[derive(Drop)]
+#[derive(Clone, Copy)]
 pub enum FoundAnswer {
     Found(bool),
     Refused(Error),
 }
 
 // Of `interrupt` and `status`.
-#[derive(Drop)]
+#[derive(Clone, Copy)]
 pub struct Sought {
     pub sender: Sender,
     pub answer: FoundAnswer,
 }
 
-#[derive(Drop)]
+#[derive(Clone, Copy)]
 pub enum ConfirmationAnswer {
     Confirmation(Confirmation),
     Refused(Error),
 }
 
-#[derive(Drop)]
+#[derive(Clone, Copy)]
 pub struct Confirmed {
     pub sender: Sender,
     pub answer: ConfirmationAnswer,
 }
 
 // Of `cancel` and `cancel_transaction`.
-#[derive(Drop)]
+#[derive(Clone, Copy)]
 pub struct Cancelled {
     pub sender: Sender,
     pub found: bool,
 }
 
-#[derive(Drop)]
+#[derive(Clone, Copy)]
 pub struct Popped {
     pub sender: Sender,
     pub next: NextEvent,

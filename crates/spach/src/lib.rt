@@ -12,7 +12,7 @@ ghost use Rattle.spach.specs.Header.{usage_of, channel_answer, channel_of, heade
 use rach::MobileIdentity;
 
 // Why a frame, a message or a call is refused. Padding, Room and Tokens are added to the Rust's.
-#[derive(Drop)]
+#[derive(Clone, Copy)]
 pub enum SpachError {
     Length,
     Identity,
@@ -55,13 +55,13 @@ impl SpachError {
 }
 
 // An answer that has no value of its own.
-#[derive(Drop)]
+#[derive(Clone, Copy)]
 pub enum Verdict {
     Accepted,
     Refused(SpachError),
 }
 
-#[derive(Drop)]
+#[derive(Clone, Copy)]
 pub enum IdentityAnswer {
     Identity(MobileIdentity),
     Refused(SpachError),
@@ -93,12 +93,12 @@ pub fn accept_identity(identity_type: u8, value: u64) -> IdentityAnswer
 }
 
 // Where the next field starts.
-#[derive(Drop)]
+#[derive(Clone, Copy)]
 pub struct Reader {
     pub offset: usize,
 }
 
-#[derive(Drop)]
+#[derive(Clone, Copy)]
 pub struct Taken {
     pub value: u64,
     pub reader: Reader,
@@ -120,14 +120,14 @@ impl Reader {
     }
 }
 
-#[derive(Drop)]
+#[derive(Clone, Copy)]
 pub enum Channel {
     Arch,
     Smsch,
     Pch,
 }
 
-#[derive(Drop)]
+#[derive(Clone, Copy)]
 pub enum ChannelAnswer {
     Channel(Channel),
     Refused(SpachError),
@@ -162,7 +162,7 @@ pub fn channel_of(usage: u64) -> ChannelAnswer
     ChannelAnswer::Refused(SpachError::UnsupportedUsage)
 }
 
-#[derive(Drop)]
+#[derive(Clone, Copy)]
 pub struct HeaderFlags {
     pub pch_continuation: bool,
     pub bcch_change: bool,
@@ -171,14 +171,14 @@ pub struct HeaderFlags {
 }
 
 // Header A as it was read, and the cursor past it.
-#[derive(Drop)]
+#[derive(Clone, Copy)]
 pub struct HeaderA {
     pub channel: Channel,
     pub flags: HeaderFlags,
     pub reader: Reader,
 }
 
-#[derive(Drop)]
+#[derive(Clone, Copy)]
 pub enum HeaderAAnswer {
     Header(HeaderA),
     Refused(SpachError),
@@ -212,14 +212,14 @@ pub fn read_header_a(octets: &[u8], reader: Reader) -> HeaderAAnswer
 }
 
 // A Begin's address as it was read, and the cursor past it.
-#[derive(Drop)]
+#[derive(Clone, Copy)]
 pub struct Address {
     pub identity: MobileIdentity,
     pub reservation_response: bool,
     pub reader: Reader,
 }
 
-#[derive(Drop)]
+#[derive(Clone, Copy)]
 pub enum AddressAnswer {
     Address(Address),
     Refused(SpachError),

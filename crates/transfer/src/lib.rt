@@ -17,18 +17,18 @@ use rach::MobileIdentity;
 use spach::{Channel, SpachError};
 
 // Tells the transfers of one sender apart, whatever echo they hold: the owner of each is a number of its counter.
-#[derive(Drop)]
+#[derive(Clone, Copy)]
 pub struct TransferToken(pub u64);
 
 // Tells apart the turns of a transfer, each of which has an echo of its own.
-#[derive(Drop)]
+#[derive(Clone, Copy)]
 pub struct Generation(pub u64);
 
 // Tells the frames apart that were prepared.
-#[derive(Drop)]
+#[derive(Clone, Copy)]
 pub struct Submission(pub u64);
 
-#[derive(Drop)]
+#[derive(Clone, Copy)]
 pub struct FrameToken {
     pub generation: Generation,
     pub submission: Submission,
@@ -36,7 +36,7 @@ pub struct FrameToken {
 }
 
 // Why a call of the sender is refused.
-#[derive(Drop)]
+#[derive(Clone, Copy)]
 pub enum Error {
     Limits,
     Capacity,
@@ -65,7 +65,7 @@ impl Error {
 }
 
 // How a transfer ended, with its completion number.
-#[derive(Drop)]
+#[derive(Clone, Copy)]
 pub enum Event {
     Complete(u64),
     Expired(u64),
@@ -74,7 +74,7 @@ pub enum Event {
 }
 
 // What is to be sent; its message stands beside it.
-#[derive(Drop)]
+#[derive(Clone, Copy)]
 pub struct Request {
     pub identity: MobileIdentity,
     pub channel: Channel,
@@ -84,7 +84,7 @@ pub struct Request {
 
 // What a transfer is from first to last: its request, the length of its message, how many frames that needs, its place n in
 // the lent store, and its token.
-#[derive(Drop)]
+#[derive(Clone, Copy)]
 pub struct Parcel {
     pub identity: MobileIdentity,
     pub completion: u64,
@@ -98,7 +98,7 @@ pub struct Parcel {
 
 // Where its frames stand, each set a number: bit k is frame k's, the Begin is frame 0 and Continue k the frame k + 1.
 // Observed are the Continues that a status showed.
-#[derive(Drop)]
+#[derive(Clone, Copy)]
 pub struct Sets {
     pub queue: u32,
     pub in_flight: u32,
@@ -108,20 +108,20 @@ pub struct Sets {
 }
 
 // A block, once there is one.
-#[derive(Drop)]
+#[derive(Clone, Copy)]
 pub enum Since {
     Never,
     Block(u64),
 }
 
-#[derive(Drop)]
+#[derive(Clone, Copy)]
 pub struct Blocks {
     pub last_progress: Since,
     pub last_frame: Since,
     pub waiting_since: Since,
 }
 
-#[derive(Drop)]
+#[derive(Clone, Copy)]
 pub struct Transfer {
     pub parcel: Parcel,
     pub generation: Generation,
@@ -131,7 +131,7 @@ pub struct Transfer {
 }
 
 // What becomes of a transfer in `advance`.
-#[derive(Drop)]
+#[derive(Clone, Copy)]
 pub enum Fate {
     Ends(Event),
     Restarts,
@@ -139,14 +139,14 @@ pub enum Fate {
 }
 
 // An echo that is not held any more, if there is one.
-#[derive(Drop)]
+#[derive(Clone, Copy)]
 pub enum FreeEcho {
     Nothing,
     Echo(u8),
 }
 
 // A frame ready to be sent, and the token under which it is reported.
-#[derive(Drop)]
+#[derive(Clone, Copy)]
 pub struct PreparedFrame {
     pub identity: MobileIdentity,
     pub octets: [u8; 14],
@@ -155,32 +155,32 @@ pub struct PreparedFrame {
 }
 
 // Whether a frame was in flight and, if so, whether all frames are transmitted with it.
-#[derive(Drop)]
+#[derive(Clone, Copy)]
 pub enum Confirmation {
     NotFound,
     Found { completed: bool },
 }
 
-#[derive(Drop)]
+#[derive(Clone, Copy)]
 pub enum CompletionAnswer {
     Nothing,
     Completion(u64),
 }
 
-#[derive(Drop)]
+#[derive(Clone, Copy)]
 pub enum Addressee {
     Nothing,
     Identity(MobileIdentity),
 }
 
-#[derive(Drop)]
+#[derive(Clone, Copy)]
 pub enum NextEvent {
     Nothing,
     Event(Event),
 }
 
 // What a transfer is sought by.
-#[derive(Drop)]
+#[derive(Clone, Copy)]
 pub enum Key {
     Identity(MobileIdentity),
     Owner(TransferToken),
@@ -191,7 +191,7 @@ pub enum Key {
 }
 
 // The first transfer sought and its place, if there is one; else the blank transfer, and the list's length.
-#[derive(Drop)]
+#[derive(Clone, Copy)]
 pub struct Place {
     pub held: bool,
     pub place: usize,
