@@ -1,0 +1,6 @@
+-- `arq::write::rest_number` meets its contract. Assumes nothing.
+use Rattle.arq.proofs.Written.{rest_number}
+use Rattle.arq.proofs.write.rest_number.Goals as goal
+
+pub returns : goal.returns
+returns c = rest_number c.args.header c.flag-polling.ensures.0 c.mode-m.ensures.0
