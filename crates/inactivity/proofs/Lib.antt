@@ -2,6 +2,5 @@ pub mod Apart
 pub mod Calls
 pub mod Invariant
 pub mod Laws
-pub mod Lending
 pub mod Readings
 pub mod Samples

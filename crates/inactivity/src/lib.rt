@@ -1,5 +1,7 @@
 // The inactivity timer of a transaction: 32 blocks to an unsolicited status, 32 more to the end.
 // Ported from link/spach/arq/inactivity.rs (chrismoos/136-bts 7c60b63bf4, Apache-2.0) and changed: see NOTICE.
+#![tactic(auto)]
+
 pub mod lent;
 
 ghost use Rattle.std.specs.Prelude.{◌≡◌, ◌≤◌};

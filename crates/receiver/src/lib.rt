@@ -1,5 +1,7 @@
 // ArqReassembler: frames of one transfer put together again.
 // Ported from link/spach/arq/receiver.rs (chrismoos/136-bts 7c60b63bf4, Apache-2.0) and changed: see NOTICE.
+#![tactic(auto)]
+
 mod message;
 pub mod push;
 mod slot;
