@@ -1,4 +1,6 @@
 // The listing that `arq-show` prints: a receiver of one identity, frames of 14 octets pushed to it in turn, a line for each.
+#![tactic(auto)]
+
 mod first;
 mod last;
 mod line;

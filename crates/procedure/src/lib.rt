@@ -1,5 +1,7 @@
 // The receive procedure: a receiver and its inactivity timer.
 // Ported from link/spach/arq/procedure.rs (chrismoos/136-bts 7c60b63bf4, Apache-2.0) and changed: see NOTICE.
+#![tactic(auto)]
+
 mod receive;
 mod status;
 mod timer;

@@ -127,7 +127,7 @@ next_live = record {
     begin_first = λ e. absurd (true≢false (sym e));
     submitted = λ e. absurd (true≢false (sym e));
   };
-  timed = record { progress = tt; waiting = tt; last-frame = tt };
+  timed = record { progress = tt; waiting = tt; last_frame = tt };
   holds = record { echo = lit≤ tt; fits = lit≤ tt; held = λ e. refl };
   place = lit≤ tt;
   usable = lit≤ tt;
@@ -150,7 +150,7 @@ sent_live = record {
     begin_first = λ e. absurd (true≢false (sym e));
     submitted = λ e. refl;
   };
-  timed = record { progress = lit≤ tt; waiting = tt; last-frame = lit≤ tt };
+  timed = record { progress = lit≤ tt; waiting = tt; last_frame = lit≤ tt };
   holds = record { echo = lit≤ tt; fits = lit≤ tt; held = λ e. refl };
   place = lit≤ tt;
   usable = lit≤ tt;

@@ -1,5 +1,7 @@
 // A transfer of the sender: a message cut into frames, which are sent until its receiver's statuses show it whole.
 // Ported from runtime/spach_arq.rs (chrismoos/136-bts 7c60b63bf4, Apache-2.0) and changed: see NOTICE.
+#![tactic(auto)]
+
 pub mod advance;
 pub mod constants;
 pub mod echo;
