@@ -233,7 +233,7 @@ module _ (s : Sender) (r : Request) (message : List ℕ) (frames echo : ℕ) (h 
 
   -- its echo
   pub accept_echo : echo < 128
-  accept_echo = (free_now (view_of s).echoes h.echoes h.next-echo (view_of s).clock.last_ms passes.proper.echo).0
+  accept_echo = (free_now (view_of s).echoes h.echoes h.next_echo (view_of s).clock.last_ms passes.proper.echo).0
 
   -- its octets
   pub accept_octets : length message ≤ 255

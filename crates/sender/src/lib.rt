@@ -1,6 +1,8 @@
 // The sender: up to 128 transfers, in the order in which they are served, and the events of those that ended. A call with a
 // clock is lent the messages' octets (`store`) and the frames' submissions (`words`).
 // Ported from runtime/spach_arq.rs (chrismoos/136-bts 7c60b63bf4, Apache-2.0) and changed: see NOTICE.
+#![tactic(auto)]
+
 mod cancel;
 mod clock;
 mod enqueue;

@@ -45,7 +45,7 @@ fresh_sound capacity guard first_block first some_capacity most_capacity counter
       live = zero-le;
       accounted = zero-le;
       echoes = refl;
-      next-echo = lit≤ tt;
+      next_echo = lit≤ tt;
       transfers = all_none;
       different = pairs-none;
       selected = tt;
@@ -176,7 +176,7 @@ busy_sound = record {
   live = lit≤ tt;
   accounted = lit≤ tt;
   echoes = refl;
-  next-echo = lit≤ tt;
+  next_echo = lit≤ tt;
   transfers = all_more next_live (all_more sent_live all_none);
   different = pairs-more (all_more next_sent all_none) (pairs-more all_none pairs-none);
   selected = (some-here (record { generation = refl; ready = refl; frame = refl; echo = refl; identity = refl }), lit≤ tt);

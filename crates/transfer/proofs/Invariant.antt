@@ -115,7 +115,7 @@ clock_kept v block ms hb hm h =
       live = h.live;
       accounted = h.accounted;
       echoes = h.echoes;
-      next-echo = h.next-echo;
+      next_echo = h.next_echo;
       transfers = all_map (live_later v.clock block ms hb hm v.limits v.echoes v.next_token) h.transfers;
       different = pairs_map (different_later v.clock block ms hb hm) h.different;
       selected = h.selected;
@@ -132,7 +132,7 @@ listed_kept v l events s fits fit live different selected h = record {
   live = fits;
   accounted = fit;
   echoes = h.echoes;
-  next-echo = h.next-echo;
+  next_echo = h.next_echo;
   transfers = live;
   different = different;
   selected = selected;
@@ -254,7 +254,7 @@ free_unheld v {echo} q h = all_map go h.transfers
   where
     go : (x : Transfer) → Live v.limits v.clock v.echoes v.next_token x → overdue v.clock x ≡ false → x.echo ≢ echo
     go x k o e =
-        let f : get_or v.echoes.echo_until_ms echo 0 ≤ v.clock.last_ms = (free_now v.echoes h.echoes h.next-echo v.clock.last_ms q).1 in
+        let f : get_or v.echoes.echo_until_ms echo 0 ≤ v.clock.last_ms = (free_now v.echoes h.echoes h.next_echo v.clock.last_ms q).1 in
         let u : get_or v.echoes.echo_until_ms x.echo 0 ≡ held_until v.limits x.parcel.deadline_ms = k.holds.held o in
         let w : get_or v.echoes.echo_until_ms x.echo 0 ≡ get_or v.echoes.echo_until_ms echo 0 = ap (λ (i : ℕ). get_or v.echoes.echo_until_ms i 0) e in
         let d = leb-false x.parcel.deadline_ms v.clock.last_ms o in
@@ -283,7 +283,7 @@ hold-kept v echo until q h =
       live = h.live;
       accounted = h.accounted;
       echoes = length-set v.echoes.echo_until_ms echo until ∙ h.echoes;
-      next-echo = omega arith;
+      next_echo = omega arith;
       transfers = all_map (λ x k. live_hold v.limits v.clock v.echoes v.next_token echo until x k.0 k.1) (all_both (free_unheld v q h) h.transfers);
       different = h.different;
       selected = h.selected;
@@ -323,7 +323,7 @@ token_kept v h =
       live = h.live;
       accounted = h.accounted;
       echoes = h.echoes;
-      next-echo = h.next-echo;
+      next_echo = h.next_echo;
       transfers = all_map (λ x. live_after v.limits v.clock v.echoes v.next_token x h.counter) h.transfers;
       different = h.different;
       selected = selected_after v.transfers v.next_token v.selected h.counter h.selected;
@@ -516,7 +516,7 @@ new_call_kept capacity guard first_block first {v} e h =
 pub events_kept : (v : View) (l : List Event) → length l ≤ length v.events → Sound v → Sound (with_events v l)
 events_kept v l n h =
     let a = h.accounted in
-    record { some_capacity = h.some_capacity; most_capacity = h.most_capacity; live = h.live; accounted = omega arith; echoes = h.echoes; next-echo = h.next-echo; transfers = h.transfers; different = h.different; selected = h.selected; counter = h.counter }
+    record { some_capacity = h.some_capacity; most_capacity = h.most_capacity; live = h.live; accounted = omega arith; echoes = h.echoes; next_echo = h.next_echo; transfers = h.transfers; different = h.different; selected = h.selected; counter = h.counter }
 
 -- ---- enqueue
 
@@ -650,7 +650,7 @@ welcomed_kept v r message g w h =
     let next = w.counter in
     let lv = w.live in
     let most = h.most_capacity in
-    let low : g.echo < 128 = (free_now v.echoes h.echoes h.next-echo v.clock.last_ms p.echo).0 in
+    let low : g.echo < 128 = (free_now v.echoes h.echoes h.next_echo v.clock.last_ms p.echo).0 in
     let n = lowest_free 128 0 v.transfers (λ j m. absurd (omega arith)) (omega arith) in
     let s : lowest_n v.transfers ≤ length v.transfers = n.0 in
     added_kept u parcel g.echo

@@ -283,7 +283,7 @@ Round e = (length e.echo_until_ms ≡ 128) × (e.next_echo < 128)
 
 -- a Sound sender's are so
 sound_round : (v : View) → Sound v → Round v.echoes
-sound_round v h = (h.echoes, h.next-echo)
+sound_round v h = (h.echoes, h.next_echo)
 
 -- every step keeps it
 restart_round : (v : View) (x : Transfer) (o : Option ℕ) → Round v.echoes → Round (restart v x o).echoes
@@ -483,7 +483,7 @@ module _ (w : View) (m : Lent) (r : Request) (message : List ℕ) (h : Sound w) 
       let v = replaced u r.identity in
       let n = lowest_n v.transfers in
       let t = w.next_token in
-      let low = (free_now w.echoes h.echoes h.next-echo w.clock.last_ms e).0 in
+      let low = (free_now w.echoes h.echoes h.next_echo w.clock.last_ms e).0 in
       let out : Transfer → Out TransferToken = λ x. record { outcome = gives (record { 0 = t }); sender = kept (token_taken v) x; lent = record { octets = stored m.octets n message; words = m.words } } in
       ap (λ (o : Outcome ℕ). goes_on u m o (λ count. pushes_literal u m r message echo count)) (cut_echo r.channel r.identity message echo low ∙ c)
       ∙ ap out (starts_begun (parcel_of r message count n t) echo t)
@@ -494,7 +494,7 @@ module _ (w : View) (m : Lent) (r : Request) (message : List ℕ) (h : Sound w) 
   allocates count c =
       let until = held_until w.limits r.deadline_ms in
       let free = free_echo w.echoes w.clock.last_ms in
-      ap (λ (o : Option ℕ). goes_on w m (refuse (ltb w.clock.last_block w.limits.startup_until_block) 21 (refuse (ltb stop until) 23 (takes_literal w.echoes until o))) cuts_again) (search-literal w.echoes h.echoes h.next-echo w.clock.last_ms)
+      ap (λ (o : Option ℕ). goes_on w m (refuse (ltb w.clock.last_block w.limits.startup_until_block) 21 (refuse (ltb stop until) 23 (takes_literal w.echoes until o))) cuts_again) (search-literal w.echoes h.echoes h.next_echo w.clock.last_ms)
       ∙ go (ltb w.clock.last_block w.limits.startup_until_block) (ltb stop until)
     where
       go : (a b : Bool) → let until = held_until w.limits r.deadline_ms in let free = free_echo w.echoes w.clock.last_ms in goes_on w m (refuse a 21 (refuse b 23 (takes_literal w.echoes until free))) cuts_again ≡ goes_on w m (refuse a 21 (refuse b 23 (granted count free))) (accepts w m r message)

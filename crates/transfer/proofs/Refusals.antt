@@ -351,5 +351,5 @@ pub failed_exactly : (v : View) (before rest : List Transfer) (x : Transfer) (as
     let u = foldl step (with_transfers v []) (unasked before) in
     ((step u (asked, x)).events ≡ push_back u.events (Failed x.parcel.completion EchoExhausted)) ↔ ((fate_of u.clock asked x ≡ Restarts) × ((k : ℕ) → k < 128 → u.clock.last_ms < get_or u.echoes.echo_until_ms k 0))
 failed_exactly v before rest x asked h e =
-    let r = steps_rounded (unasked before) (with_transfers v []) (h.echoes, h.next-echo) in
+    let r = steps_rounded (unasked before) (with_transfers v []) (h.echoes, h.next_echo) in
     step_fails_exactly (foldl step (with_transfers v []) (unasked before)) x asked r.0 r.1

@@ -145,7 +145,7 @@ does_careful v m c h =
     let l = does_leaves v m c h in
     let k = l.quietly.clock in
     let w : Within k.last_ms v (with_clock v k) = record { limits = refl; since = l.quietly.ms; clock = refl; holds = λ echo. omega arith; comes = all_map (λ x o. inl o) (each_of v.transfers) } in
-    let z = (last_made k.last_ms v l.last (moves-made k.last_ms v l.quietly.made (w, (h.echoes, h.next-echo)))).0 in
+    let z = (last_made k.last_ms v l.last (moves-made k.last_ms v l.quietly.made (w, (h.echoes, h.next_echo)))).0 in
     subst (λ n. Within n v (does v m c).sender) (sym z.clock) z
 
 -- ---- what a call takes

@@ -62,7 +62,7 @@ module _ (v : View) (a : List Transfer) (x : Transfer) (b : List Transfer) (h : 
       let j = h.accounted in
       let n : length (a ++ x ∷ b) ≡ suc (length (a ++ b)) = length_in a x b in
       let m : length (a ++ begins ∷ b) ≡ suc (length (a ++ b)) = length_in a begins b in
-      let low : echo < 128 = (free_now v.echoes h.echoes h.next-echo v.clock.last_ms q).0 in
+      let low : echo < 128 = (free_now v.echoes h.echoes h.next_echo v.clock.last_ms q).0 in
       let live = live_after v.limits v.clock v.echoes v.next_token x h.counter (all_one a x b h.transfers) in
       let alive = begun_live x live echo v.next_token low h.echoes (omega arith) in
       record {
@@ -71,7 +71,7 @@ module _ (v : View) (a : List Transfer) (x : Transfer) (b : List Transfer) (h : 
         live = omega arith;
         accounted = omega arith;
         echoes = r.echoes;
-        next-echo = r.next-echo;
+        next_echo = r.next_echo;
         transfers = all_in a begins b alive r.transfers;
         different = pairs_in (different_sym v.clock) a begins b others r.different;
         selected = selected_in (number_after v.next_token) (unselect x.generation v.selected) r.selected;

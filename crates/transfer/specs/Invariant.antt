@@ -139,7 +139,7 @@ pub record Sound (v : View) : Type 0 where
   pub live : length v.transfers ≤ v.limits.capacity
   pub accounted : length v.transfers + length v.events ≤ 2 * v.limits.capacity
   pub echoes : length v.echoes.echo_until_ms ≡ 128
-  pub next-echo : v.echoes.next_echo < 128
+  pub next_echo : v.echoes.next_echo < 128
   pub transfers : All (Live v.limits v.clock v.echoes v.next_token) v.transfers
   pub different : Pairs (Different v.clock) v.transfers
   pub selected : Selected v.transfers v.next_token v.selected

@@ -1,0 +1,41 @@
+-- `sender::Sender::advance` meets its contract. Assumes nothing.
+-- the sender is let through
+use mathlib.Core.Path.{◌≡◌, ap, ◌∙◌}
+use Rattle.transfer.specs.Advance.{walked, advance_of}
+use Rattle.transfer.specs.State.{says}
+use Rattle.transfer.specs.History.{Advance}
+use Rattle.transfer.proofs.Lives.{does-kept}
+use Rattle.sender.specs.Arrays.{view_of, lent}
+use Rattle.sender.proofs.Admitted.{asked, Through, turned_back, goes_on_lem, walked_by, through_whole}
+use Rattle.sender.proofs.Slots.{whole_after}
+use Rattle.sender.proofs.Sender.advance.Goals as goal
+use Rattle.sender.proofs.Sender.advance.Goals.{In_default}
+
+through : (c : In_default) → let a = c.args in Through a.self a.store.now a.words.now a.block a.now_ms
+unfolding view_of
+through c =
+    let a = c.args in
+    asked (view_of a.self) a.store.now a.words.now a.block a.now_ms c.short-lacking.ensures c.admit-verdict.ensures c.in_default.is
+
+pub short-lacking-requires : goal.short-lacking-requires
+short-lacking-requires c = tt
+
+pub admit-verdict-requires : goal.admit-verdict-requires
+admit-verdict-requires c = tt
+
+pub returns-in-Refused : goal.returns-in-Refused
+unfolding view_of advance_of
+returns-in-Refused c =
+    let a = c.args in
+    let k = asked (view_of a.self) a.store.now a.words.now a.block a.now_ms c.short-lacking.ensures c.admit-verdict.ensures c.in-Refused.is in record { result_value = turned_back k (λ w. says tt (walked w)); whole = c.requires }
+
+pub walk-s-requires : goal.walk-s-requires
+walk-s-requires c = through_whole (through (goal.at.walk-s-requires c).In_default) c.requires
+
+pub returns : goal.returns
+unfolding view_of advance_of
+returns c =
+    let a = c.args in
+    let k = through (goal.at.returns c).In_default in
+    let p : says tt (view_of c.walk-s.result) ≡ advance_of (view_of a.self) (lent a.store.now a.words.now) a.block a.now_ms = ap (says tt) (walked_by k c.requires.sound c.walk-s.ensures.1) ∙ goes_on_lem k (λ w. says tt (walked w)) in let both = whole_after c.walk-s.ensures.0 p (does-kept (view_of a.self) (lent a.store.now a.words.now) (Advance a.block a.now_ms) c.requires.sound) in
+    record { result_value = both.0; whole = both.1 }

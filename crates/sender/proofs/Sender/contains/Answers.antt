@@ -1,0 +1,11 @@
+-- `sender::Sender::contains` meets its contract. Assumes nothing.
+use Rattle.transfer.specs.Enqueue.{addressed}
+use Rattle.sender.specs.Arrays.{view_of}
+use Rattle.sender.proofs.Found.{held_any}
+use Rattle.sender.proofs.Sender.contains.Goals as goal
+
+pub find-requires : goal.find-requires
+find-requires c = c.requires.fitted
+
+pub returns : goal.returns
+returns c = held_any (addressed c.args.identity) (view_of c.args.self).transfers c.find.ensures

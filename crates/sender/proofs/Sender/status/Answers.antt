@@ -1,0 +1,47 @@
+-- `sender::Sender::status` meets its contract. Assumes nothing.
+-- the sender is let through
+use mathlib.Core.Path.{◌≡◌, ap, ◌∙◌}
+use Rattle.transfer.specs.Advance.{walked}
+use Rattle.transfer.specs.State.{View}
+use Rattle.transfer.specs.Status.{status_at, status_of}
+use Rattle.transfer.specs.History.{Status}
+use Rattle.transfer.proofs.Lives.{does-kept}
+use Rattle.sender.specs.Answers.{sought}
+use Rattle.sender.specs.Arrays.{view_of, lent}
+use Rattle.sender.proofs.Admitted.{asked, Through, turned_back, goes_on_lem, walked_by, through_whole, walked_whole}
+use Rattle.sender.proofs.Slots.{whole_after}
+use Rattle.sender.proofs.Sender.status.Goals as goal
+use Rattle.sender.proofs.Sender.status.Goals.{In_default}
+
+through : (c : In_default) → let a = c.args in Through a.self a.store.now a.words.now a.block a.now_ms
+unfolding view_of
+through c =
+    let a = c.args in
+    asked (view_of a.self) a.store.now a.words.now a.block a.now_ms c.short-lacking.ensures c.admit-verdict.ensures c.in_default.is
+
+pub short-lacking-requires : goal.short-lacking-requires
+short-lacking-requires c = tt
+
+pub admit-verdict-requires : goal.admit-verdict-requires
+admit-verdict-requires c = tt
+
+pub returns-in-Refused : goal.returns-in-Refused
+unfolding view_of status_of
+returns-in-Refused c =
+    let a = c.args in
+    let k = asked (view_of a.self) a.store.now a.words.now a.block a.now_ms c.short-lacking.ensures c.admit-verdict.ensures c.in-Refused.is in record { result_value = turned_back k (λ w. status_at (walked w) a.status); whole = c.requires }
+
+pub walk-requires : goal.walk-requires
+walk-requires c = through_whole (through (goal.at.walk-requires c).In_default) c.requires
+
+pub shows-requires : goal.shows-requires
+shows-requires c = walked_whole (through (goal.at.shows-requires c).In_default) c.requires c.walk.ensures.0 c.walk.ensures.1
+
+pub returns : goal.returns
+unfolding view_of status_of
+returns c =
+    let a = c.args in
+    let k = through (goal.at.returns c).In_default in
+    let p : sought c.shows.result ≡ status_of (view_of a.self) (lent a.store.now a.words.now) a.status a.block a.now_ms =
+    c.shows.ensures.1 ∙ (ap (λ (u : View). status_at u a.status) (walked_by k c.requires.sound c.walk.ensures.1) ∙ goes_on_lem k (λ w. status_at (walked w) a.status)) in let both = whole_after c.shows.ensures.0 p (does-kept (view_of a.self) (lent a.store.now a.words.now) (Status a.status a.block a.now_ms) c.requires.sound) in
+    record { result_value = both.0; whole = both.1 }
