@@ -1,5 +1,4 @@
 -- `sender::Sender::advance` meets its contract. Assumes nothing.
--- the sender is let through
 use mathlib.Core.Path.{◌≡◌, ap, ◌∙◌}
 use Rattle.transfer.specs.Advance.{walked, advance_of}
 use Rattle.transfer.specs.State.{says}
@@ -11,6 +10,7 @@ use Rattle.sender.proofs.Slots.{whole_after}
 use Rattle.sender.proofs.Sender.advance.Goals as goal
 use Rattle.sender.proofs.Sender.advance.Goals.{In_default}
 
+-- the sender is let through
 through : (c : In_default) → let a = c.args in Through a.self a.store.now a.words.now a.block a.now_ms
 unfolding view_of
 through c =

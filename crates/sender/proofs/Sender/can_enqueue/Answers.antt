@@ -1,6 +1,4 @@
 -- `sender::Sender::can_enqueue` meets its contract. Assumes nothing.
--- as many transfers are live as are counted
--- as many events wait as are counted
 use mathlib.Core.Path.{◌≡◌, sym, ap, ◌∙◌}
 use native.Mathlib.Omega.{arith}
 use borrow.Author.Rules.{rules}
@@ -12,8 +10,11 @@ use Rattle.sender.proofs.Slots.{unmapped, live_counted, events_counted}
 use Rattle.sender.proofs.Sender.can_enqueue.Goals as goal
 use Rattle.sender.proofs.Sender.can_enqueue.Goals.{Start}
 
+-- as many transfers are live as are counted
 live : (c : Start) → length (view_of c.args.self).transfers ≡ c.args.self.pending
 live c = live_counted c.args.self (search (rules, unmapped)) c.requires.fitted
+
+-- as many events wait as are counted
 waiting : (c : Start) → length (view_of c.args.self).events ≡ c.args.self.waiting
 waiting c = events_counted c.args.self (search (rules, unmapped)) c.requires.fitted
 

@@ -1,5 +1,4 @@
 -- `sender::Sender::enqueue` meets its contract. Assumes nothing.
--- the sender is let through
 use mathlib.Core.Path.{sym, ap, ◌∙◌}
 use Rattle.transfer.specs.declared.TransferToken.{TransferToken}
 use Rattle.transfer.specs.Enqueue.{grant_of, accepts, enqueue_of}
@@ -13,6 +12,7 @@ use Rattle.sender.proofs.Slots.{whole_by}
 use Rattle.sender.proofs.Sender.enqueue.Goals as goal
 use Rattle.sender.proofs.Sender.enqueue.Goals.{In_default}
 
+-- the sender is let through
 through : (c : In_default) → let a = c.args in Through a.self a.store.now a.words.now a.block a.now_ms
 unfolding view_of
 through c =

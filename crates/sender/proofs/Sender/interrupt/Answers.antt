@@ -1,5 +1,4 @@
 -- `sender::Sender::interrupt` meets its contract. Assumes nothing.
--- the sender is let through
 use mathlib.Core.Path.{◌≡◌, ◌∙◌}
 use mathlib.Core.Bool.{true}
 use borrow.Author.Tests.{not-true, not-false}
@@ -13,6 +12,7 @@ use Rattle.sender.proofs.Slots.{whole_after}
 use Rattle.sender.proofs.Sender.interrupt.Goals as goal
 use Rattle.sender.proofs.Sender.interrupt.Goals.{In_default}
 
+-- the sender is let through
 through : (c : In_default) → let a = c.args in Through a.self a.store.now a.words.now a.block a.now_ms
 unfolding view_of
 through c =

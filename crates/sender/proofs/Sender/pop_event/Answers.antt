@@ -1,6 +1,4 @@
 -- `sender::Sender::pop_event` meets its contract. Assumes nothing.
--- as many events wait as are counted
--- what is said of a sender with an event
 use mathlib.Core.Path.{◌≡◌, ap, ◌∙◌}
 use mathlib.Core.List.{[]}
 use mathlib.Core.Option.{some}
@@ -23,8 +21,11 @@ use Rattle.sender.proofs.Slots.{unmapped, events_counted, whole_after}
 use Rattle.sender.proofs.Sender.pop_event.Goals as goal
 use Rattle.sender.proofs.Sender.pop_event.Goals.{Start}
 
+-- as many events wait as are counted
 waiting : (c : Start) → length (view_of c.args.self).events ≡ c.args.self.waiting
 waiting c = events_counted c.args.self (search (rules, unmapped)) c.requires.fitted
+
+-- what is said of a sender with an event
 taken : (s : Sender) {r : View} → 0 < s.waiting → 0 < length (view_of s).events → r ≡ with_events (view_of s) (drop 1 (view_of s).events) →
     says (some (ending_of (get_or s.events 0 (record { event = Complete 0 })).event)) r ≡ pop_event_of (view_of s)
 unfolding view_of

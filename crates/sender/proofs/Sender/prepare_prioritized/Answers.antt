@@ -1,5 +1,4 @@
 -- `sender::Sender::prepare_prioritized` meets its contract. Assumes nothing.
--- the sender is let through
 use mathlib.Core.Path.{◌≡◌, ap, ◌∙◌}
 use Rattle.spach.specs.Refusal.{Outcome}
 use Rattle.transfer.specs.Advance.{walked}
@@ -15,6 +14,7 @@ use Rattle.sender.proofs.Slots.{whole_by}
 use Rattle.sender.proofs.Sender.prepare_prioritized.Goals as goal
 use Rattle.sender.proofs.Sender.prepare_prioritized.Goals.{In_default}
 
+-- the sender is let through
 through : (c : In_default) → let a = c.args in Through a.self a.store.now a.words.now a.block a.now_ms
 unfolding view_of
 through c =

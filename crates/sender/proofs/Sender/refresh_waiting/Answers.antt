@@ -1,5 +1,4 @@
 -- `sender::Sender::refresh_waiting` meets its contract. Assumes nothing.
--- the sender is let through
 use mathlib.Core.Path.{◌≡◌, ap, ◌∙◌}
 use Rattle.transfer.specs.Advance.{walked}
 use Rattle.transfer.specs.Refresh.{queue_waiting, serve_oldest, refresh_waiting_of}
@@ -12,6 +11,7 @@ use Rattle.sender.proofs.Slots.{whole_after}
 use Rattle.sender.proofs.Sender.refresh_waiting.Goals as goal
 use Rattle.sender.proofs.Sender.refresh_waiting.Goals.{In_default}
 
+-- the sender is let through
 through : (c : In_default) → let a = c.args in Through a.self a.store.now a.words.now a.block a.now_ms
 unfolding view_of
 through c =

@@ -40,6 +40,6 @@ unfolding view_of submitted_of
 returns c =
     let a = c.args in
     let s = c.submit in
-    let p : submitted s.result (lent a.store.now s.new.1.1.0) ≡ submitted_of (view_of a.self) (lent a.store.now a.words.now) a.token a.block a.now_ms =
-    submitted-octets (clocked (view_of a.self) a.block a.now_ms) a.store.now a.words.now a.token s.ensures.0.1 s.ensures.1
-    ∙ submitted_on (view_of a.self) a.store.now a.words.now a.block a.now_ms c.short.ensures (λ w. submitted_at w (lent a.store.now a.words.now) a.token) c.tick.ensures c.if-short.false c.in_default.is in record { words_after = p; whole = whole_by s.ensures.0.0 (ap (λ (o : Out Unit). o.sender) p) (does-kept (view_of a.self) (lent a.store.now a.words.now) (Submitted a.token a.block a.now_ms) c.requires.sound) }
+    let p : submitted s.result (lent a.store.now s.new.words) ≡ submitted_of (view_of a.self) (lent a.store.now a.words.now) a.token a.block a.now_ms =
+    submitted-octets (clocked (view_of a.self) a.block a.now_ms) a.store.now a.words.now a.token s.ensures.fitted.1 s.ensures.words_after
+    ∙ submitted_on (view_of a.self) a.store.now a.words.now a.block a.now_ms c.short.ensures (λ w. submitted_at w (lent a.store.now a.words.now) a.token) c.tick.ensures c.if-short.false c.in_default.is in record { words_after = p; whole = whole_by s.ensures.fitted.0 (ap (λ (o : Out Unit). o.sender) p) (does-kept (view_of a.self) (lent a.store.now a.words.now) (Submitted a.token a.block a.now_ms) c.requires.sound) }

@@ -1,5 +1,4 @@
 -- `sender::Sender::submitted_message` meets its contract. Assumes nothing.
--- what is said of the transfer
 use mathlib.Core.Path.{◌≡◌, sym, ap, ◌∙◌}
 use mathlib.Core.Bool.{Bool, true, false, cond}
 use mathlib.Core.Option.{Option, none, some}
@@ -17,8 +16,10 @@ use Rattle.sender.specs.Arrays.{view_of}
 use Rattle.sender.proofs.Found.{seek_found, seek_none}
 use Rattle.sender.proofs.Sender.submitted_message.Goals as goal
 
+-- what is said of the transfer
 told : ℕ → Transfer → Option ℕ
 told place x = cond (full x.parcel.frames (went_out x)) (some x.parcel.completion) none
+
 module _ (v : View) (t : FrameToken) {r : Place} (e : r ≡ place_of (of_generation t.generation) v.transfers) where
   -- no transfer has the generation
   message-none : r.held ≡ false → none ≡ submitted_message_of v t

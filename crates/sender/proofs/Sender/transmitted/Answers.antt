@@ -1,5 +1,4 @@
 -- `sender::Sender::transmitted` meets its contract. Assumes nothing.
--- the sender is let through
 use mathlib.Core.Path.{◌≡◌, ◌∙◌}
 use Rattle.transfer.specs.Submitted.{transmitted_at, transmitted_of}
 use Rattle.transfer.specs.History.{Transmitted}
@@ -11,6 +10,7 @@ use Rattle.sender.proofs.Slots.{whole_after}
 use Rattle.sender.proofs.Sender.transmitted.Goals as goal
 use Rattle.sender.proofs.Sender.transmitted.Goals.{In_default}
 
+-- the sender is let through
 through : (c : In_default) → let a = c.args in Through a.self a.store.now a.words.now a.block a.now_ms
 unfolding view_of
 through c =

@@ -1,7 +1,4 @@
 -- `sender::Sender::try_new` meets its contract. Assumes nothing.
--- an answer, and the sender beside it
--- a refusal, with the blank sender beside it
--- a refusal accepts nothing
 use mathlib.Core.Path.{◌≡◌, refl, sym, ap, ◌∙◌}
 use Prim.Native.Nat.{ℕ, ◌≤◌, ◌<◌}
 use native.Mathlib.Omega.{arith}
@@ -29,10 +26,16 @@ module _ (capacity guard start first : ℕ) where
   accepted : (capacity ≡ 0 → ⊥) → capacity ≤ 128 → new_of capacity guard start first ≡ gives (fresh capacity guard start first)
   unfolding new_of
   accepted h l = rw (ne_eqb capacity 0 h, le-ltb 128 capacity l) refl
+
+-- an answer, and the sender beside it
 abbrev beside : Outcome Unit → View → Outcome Unit × View
 beside o v = (o, v)
+
+-- a refusal, with the blank sender beside it
 refused : {v : View} {o : Outcome View} → v ≡ blank_view → o ≡ refuses 19 → beside (refuses 19) v ≡ answered blank_view o
 refused e q = ap (beside (refuses 19)) e ∙ sym (ap (answered blank_view) q)
+
+-- a refusal accepts nothing
 no-sender : {X : Type 0} → ◌≡◌ {A = Outcome Unit} (refuses 19) (gives tt) → X
 no-sender e = let z : ◌≡◌ {A = ℕ} 0 1 = cc in absurd (omega arith)
 

@@ -6,7 +6,6 @@ use native.Mathlib.Omega.{arith}
 use borrow.Author.Rules.{rules}
 use lib.ListN.{length, take, get_or, length-set}
 use Rattle.transfer.specs.declared.Event.{Event}
-use Rattle.transfer.specs.declared.Event.TheVariants.{Cancelled}
 use Rattle.transfer.specs.declared.PreparedFrame.{PreparedFrame}
 use Rattle.transfer.specs.declared.Transfer.{Transfer}
 use Rattle.transfer.specs.Cancel.{cancel_all_of}
@@ -16,17 +15,17 @@ use Rattle.sender.specs.Arrays.{selection_of, view_of}
 use Rattle.sender.proofs.Oldest.{behind_none, behind_more}
 use Rattle.sender.proofs.Slots.{unmapped}
 use Rattle.sender.proofs.Turns.{room_first}
+use Rattle.sender.proofs.cancel.all_cancelled.Invariants.{eventOf, cancelled}
 use Rattle.sender.proofs.cancel.all_cancelled.Goals as goal
 use Rattle.sender.proofs.cancel.all_cancelled.Goals.{Start}
 
-abbrev eventOf : EventSlot → Event
-eventOf e = e.event
-abbrev cancelled : Transfer → Event
-cancelled x = Cancelled x.parcel.completion
 all : (c : Start) → length c.args.s.transfers ≡ 128
 all c = search (rules, unmapped)
+
 slots : (c : Start) → length c.args.s.events ≡ 256
 slots c = search (rules, unmapped)
+
+-- there is room for an event of each
 room : (c : Start) → c.args.s.pending + c.args.s.waiting ≤ 256
 room c = room_first c.args.s (all c) (slots c) c.requires
 

@@ -17,6 +17,8 @@ use Rattle.sender.proofs.cancel.popped.Goals.{Start}
 
 all : (c : Start) → length c.args.s.events ≡ 256
 all c = search (rules, unmapped)
+
+-- an event waits
 some-wait : (c : Start) → 0 < c.args.s.waiting
 some-wait c =
     let read = events_counted c.args.s (all c) c.requires.0 in

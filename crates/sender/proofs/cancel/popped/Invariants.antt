@@ -1,5 +1,4 @@
 -- `sender::cancel::popped` meets its contract. Assumes nothing.
--- an event waits
 use mathlib.Core.Path.{◌≡◌}
 use mathlib.Core.List.{[]}
 use Prim.Native.Nat.{◌-◌, ◌≤◌, ◌<◌}

@@ -11,6 +11,7 @@ use Rattle.sender.proofs.enqueue.grant.Goals.{Start}
 
 pending : (c : Start) → length (view_of c.args.s).transfers ≡ c.args.s.pending
 pending c = live_counted c.args.s (search (rules, unmapped)) c.requires.fitted
+
 waiting : (c : Start) → length (view_of c.args.s).events ≡ c.args.s.waiting
 waiting c = events_counted c.args.s (search (rules, unmapped)) c.requires.fitted
 

@@ -16,6 +16,8 @@ fits c =
     let all : length c.args.s.transfers ≡ 128 = search (rules, unmapped) in
     let low = c.requires.fitted.pending in
     omega arith
+
+-- the place of a live transfer
 low : (c : Start) (i : ℕ) → i < c.args.s.pending → (get_or c.args.s.transfers i blank_transfer).parcel.n < 128
 unfolding view_of
 low c i lt =

@@ -1,5 +1,4 @@
 -- `sender::enqueue::places` meets its contract. Assumes nothing.
--- the place of a live transfer
 use Prim.Native.Nat.{◌-◌, ◌≤◌}
 use lib.ListN.{take}
 use Rattle.sender.proofs.Granted.{Marked}

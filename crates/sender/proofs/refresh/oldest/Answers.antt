@@ -12,6 +12,7 @@ use Rattle.sender.specs.Arrays.{view_of}
 use Rattle.sender.proofs.Oldest.{oldest_on, older, younger, oldest_ends}
 use Rattle.sender.proofs.Slots.{unmapped}
 use Rattle.sender.proofs.refresh.oldest.Goals as goal
+use Rattle.sender.proofs.refresh.oldest.Goals.{then-top-age, else-top-age}
 use Rattle.sender.proofs.refresh.oldest.Goals.{Start}
 
 fits : (c : Start) → c.args.s.pending ≤ length c.args.s.transfers
@@ -48,10 +49,10 @@ loop-i-preserved c =
     let f = age_of s.last_block in
     let a : ℕ = c.age_of-age.result in
     let next : oldest_on f s.transfers s.pending l.best l.top l.i ≡ oldest_on f s.transfers s.pending c.if-top-age.best c.if-top-age.top (l.i + 1) =
-    ⊎_elim
-    (λ p. rw (p.1, p.2) (older f s.transfers s.pending blank_transfer (fits (goal.at.loop-i-preserved c).Start) l.best l.top l.i a c.loop-i-test.true c.age_of-age.ensures p.0.taken))
-    (λ p. rw (p.1, p.2) (younger f s.transfers s.pending blank_transfer (fits (goal.at.loop-i-preserved c).Start) l.best l.top l.i a c.loop-i-test.true c.age_of-age.ensures p.0.left))
-    c.if-top-age.branch in
+    elim c.if-top-age.branch [
+      then-top-age w ↦ rw (w.best-is, w.top-is) (older f s.transfers s.pending blank_transfer (fits (goal.at.loop-i-preserved c).Start) l.best l.top l.i a c.loop-i-test.true c.age_of-age.ensures w.if-top-age.true)
+      | else-top-age w ↦ rw (w.best-is, w.top-is) (younger f s.transfers s.pending blank_transfer (fits (goal.at.loop-i-preserved c).Start) l.best l.top l.i a c.loop-i-test.true c.age_of-age.ensures w.if-top-age.false)
+    ] in
     (omega arith, l.invariant.1 ∙ next)
 
 pub returns : goal.returns

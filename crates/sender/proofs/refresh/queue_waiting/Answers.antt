@@ -19,6 +19,8 @@ use Rattle.sender.proofs.refresh.queue_waiting.Goals.{Start}
 
 all : (c : Start) → length c.args.s.transfers ≡ 128
 all c = search (rules, unmapped)
+
+-- each of the first has 1 to 27 frames
 framed : (c : Start) (i : ℕ) → i < c.args.s.pending → (1 ≤ (get_or c.args.s.transfers i blank_transfer).parcel.frames) × ((get_or c.args.s.transfers i blank_transfer).parcel.frames ≤ 27)
 unfolding view_of
 framed c i h =

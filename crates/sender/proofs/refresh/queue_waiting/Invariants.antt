@@ -1,5 +1,4 @@
 -- `sender::refresh::queue_waiting` meets its contract. Assumes nothing.
--- each of the first has 1 to 27 frames
 use mathlib.Core.Path.{◌≡◌}
 use mathlib.Core.List.{[]}
 use Prim.Native.Nat.{◌-◌, ◌≤◌}

@@ -1,5 +1,4 @@
 -- `sender::refresh::serve_oldest` meets its contract. Assumes nothing.
--- while a frame is selected the order stays
 use mathlib.Core.Path.{◌≡◌, sym, ap, ◌∙◌}
 use mathlib.Core.Bool.{Bool, cond}
 use mathlib.Core.List.{◌∷◌}
@@ -20,9 +19,11 @@ use Rattle.sender.proofs.Slots.{unmapped}
 use Rattle.sender.proofs.refresh.serve_oldest.Goals as goal
 use Rattle.sender.proofs.refresh.serve_oldest.Goals.{Start}
 
+-- while a frame is selected the order stays
 serve-held : (v : View) (f : PreparedFrame) → v.selected ≡ some f → v ≡ serve_oldest v
 unfolding serve_oldest
 serve-held v f e = sym (ap (λ (o : Option PreparedFrame). oldest_first v o) e)
+
 module _ (v : View) (place : ℕ) (free : v.selected ≡ none) (found : place ≡ oldest v.clock.last_block v.transfers) where
   -- else the transfer at the place found goes to the front
   serve-free : serve_oldest v ≡ with_transfers v (to_front place v.transfers)
@@ -41,6 +42,7 @@ module _ (v : View) (place : ℕ) (free : v.selected ≡ none) (found : place �
       (serve-free ∙
       (ap (λ (b : Bool). with_transfers v (cond b (get_or v.transfers place blank_transfer ∷ remove_at place v.transfers) v.transfers)) (lt-ltb place (length v.transfers) h) ∙
       ap (λ (y : Transfer). with_transfers v (y ∷ remove_at place v.transfers)) e))
+
 long : (c : Start) → length (view_of c.args.s).transfers ≡ c.args.s.pending
 unfolding view_of
 long c =

@@ -1,8 +1,4 @@
 -- `sender::status::shows` meets its contract. Assumes nothing.
--- the transfer was found
--- whether its Begin went out
--- its Begin went out
--- the sender with the status observed is sound
 use mathlib.Core.Path.{◌≡◌, sym, ap, subst, ◌∙◌}
 use mathlib.Core.Bool.{true}
 use Prim.Native.Nat.{ℕ}
@@ -17,14 +13,17 @@ use Rattle.sender.specs.Arrays.{view_of}
 use Rattle.sender.proofs.Found.{found_low, found_there}
 use Rattle.sender.proofs.Handed.{walked_past, status_unfound, status_unbegun, status_found}
 use Rattle.sender.proofs.status.shows.Goals as goal
-use Rattle.sender.proofs.status.shows.Goals.{After-has, After-put, Else-not-found, Else-not-has}
+use Rattle.sender.proofs.status.shows.Goals.{After-has, After-put, Else-not-found}
 
+-- the transfer was found
 found : (c : Else-not-found) → c.find-found.result.held ≡ true
 found c = not-false c.find-found.result.held c.if-not-found.false
+
+-- whether its Begin went out
 begin-out : (c : After-has) → c.has.result ≡ has (went_out c.find-found.result.transfer) 0
 begin-out c = c.has.ensures ∙ ap (λ (q : ℕ). has q 0) c.went_out.ensures
-out : (c : Else-not-has) → has (went_out c.find-found.result.transfer) 0 ≡ true
-out c = sym (begin-out c) ∙ not-false c.has.result c.if-not-has.false-raw
+
+-- the sender with the status observed is sound
 put-sound : (c : After-put) → Sound (view_of c.put.result)
 unfolding view_of
 put-sound c =
@@ -33,7 +32,8 @@ put-sound c =
     let same = c.put.ensures.1 ∙ ap (put_at v c.find-found.result.place) c.observe-y.ensures in
     subst Sound (sym same)
     (put-observed-kept v c.find-found.result.place c.args.status.received_frames c.find-found.result.transfer
-    (found_low g v.transfers c.find-found.ensures (found c)) (found_there g v.transfers c.find-found.ensures) (out c) c.requires.sound)
+    (found_low g v.transfers c.find-found.ensures (not-false c.find-found.result.held c.if-not-found.false)) (found_there g v.transfers c.find-found.ensures)
+    (sym (c.has.ensures ∙ ap (λ (q : ℕ). has q 0) c.went_out.ensures) ∙ not-false c.has.result c.if-not-has.false-raw) c.requires.sound)
 
 pub returns-then-not-found : goal.returns-then-not-found
 returns-then-not-found c =

@@ -1,7 +1,4 @@
 -- `sender::submit::confirm` meets its contract. Assumes nothing.
--- the transfer was found
--- its frame is one of the transfer's
--- the sender with the frame confirmed is sound
 use mathlib.Core.Path.{◌≡◌, sym, ap, subst, ◌∙◌}
 use mathlib.Core.Bool.{true}
 use Prim.Native.Nat.{◌<◌}
@@ -18,13 +15,18 @@ use Rattle.sender.proofs.Handed.{walked_past, confirm_unfound, confirm_lost, con
 use Rattle.sender.proofs.submit.confirm.Goals as goal
 use Rattle.sender.proofs.submit.confirm.Goals.{After-put, Else-not-found, Else-not-is_outstanding}
 
+-- the transfer was found
 found : (c : Else-not-found) → c.find-found.result.held ≡ true
 found c = not-false c.find-found.result.held c.if-not-found.false
+
+-- its frame is one of the transfer's
 frame-low : (c : Else-not-is_outstanding) → c.args.token.frame < c.find-found.result.transfer.parcel.frames
 frame-low c =
     let a = c.args in
     let o = c.is_outstanding in
     outstanding_frame a.token a.words.now c.find-found.result.transfer (sym o.ensures ∙ not-false o.result c.if-not-is_outstanding.false-raw)
+
+-- the sender with the frame confirmed is sound
 put-sound : (c : After-put) → Sound (view_of c.put.result)
 put-sound c =
     let g = of_generation c.args.token.generation in
@@ -32,7 +34,8 @@ put-sound c =
     let same = c.put.ensures.1 ∙ ap (put_at v c.find-found.result.place) c.confirm_frame-y.ensures in
     subst Sound (sym same)
     (put-confirmed-kept v c.find-found.result.place c.args.token.frame c.find-found.result.transfer
-    (found_low g v.transfers c.find-found.ensures (found c)) (found_there g v.transfers c.find-found.ensures) (frame-low c) c.requires.0.sound)
+    (found_low g v.transfers c.find-found.ensures (not-false c.find-found.result.held c.if-not-found.false)) (found_there g v.transfers c.find-found.ensures)
+    (outstanding_frame c.args.token c.args.words.now c.find-found.result.transfer (sym c.is_outstanding.ensures ∙ not-false c.is_outstanding.result c.if-not-is_outstanding.false-raw)) c.requires.0.sound)
 
 pub returns-then-not-found : goal.returns-then-not-found
 returns-then-not-found c =

@@ -1,5 +1,4 @@
 -- `sender::submit::hand_in` meets its contract. Assumes nothing.
--- no more are live than there is room for
 use mathlib.Core.Path.{◌≡◌, refl, ap, ◌∙◌}
 use mathlib.Core.Option.{Option, none}
 use Prim.Native.Nat.{◌≤◌, suc}
@@ -17,6 +16,7 @@ use Rattle.sender.proofs.Slots.{unmapped, live_counted}
 use Rattle.sender.proofs.submit.hand_in.Goals as goal
 use Rattle.sender.proofs.submit.hand_in.Goals.{Start}
 
+-- no more are live than there is room for
 room : (c : Start) → length (view_of c.args.s).transfers ≤ 128
 room c =
     let live = live_counted c.args.s (search (rules, unmapped)) c.requires.0 in

@@ -1,6 +1,4 @@
 -- `sender::submit::submit` meets its contract. Assumes nothing.
--- the lent words that an outcome leaves
--- its transfer was found
 use mathlib.Core.Path.{◌≡◌, ap}
 use mathlib.Core.Bool.{true}
 use mathlib.Core.List.{List, []}
@@ -14,8 +12,11 @@ use Rattle.sender.proofs.Handed.{front_frame, submit_unselected, submit_unfound,
 use Rattle.sender.proofs.submit.submit.Goals as goal
 use Rattle.sender.proofs.submit.submit.Goals.{Else-not-found}
 
+-- the lent words that an outcome leaves
 abbrev words_of : Out Unit → List ℕ
 words_of o = o.lent.words
+
+-- its transfer was found
 found : (c : Else-not-found) → c.find-found.result.held ≡ true
 found c = not-false c.find-found.result.held c.if-not-found.false
 
@@ -63,4 +64,4 @@ unfolding view_of
 returns c =
     let a = c.args in
     let h = c.hand_in-r.ensures in
-    let e = submit_handed (view_of a.s) (lent [] a.words.now) a.token c.is_selected.ensures c.if-not-is_selected.false-raw c.find-found.ensures (found (goal.at.returns c).Else-not-found) c.is_front.ensures c.if-not-is_front.false-raw _ _ h.0.1 h.1 in record { fitted = (h.0.0, e.0); words_after = e.1 }
+    let e = submit_handed (view_of a.s) (lent [] a.words.now) a.token c.is_selected.ensures c.if-not-is_selected.false-raw c.find-found.ensures (found (goal.at.returns c).Else-not-found) c.is_front.ensures c.if-not-is_front.false-raw _ _ h.fitted.1 h.words_after in record { fitted = (h.fitted.0, e.0); words_after = e.1 }

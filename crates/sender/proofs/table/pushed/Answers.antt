@@ -13,6 +13,7 @@ use Rattle.sender.proofs.table.pushed.Goals.{Start}
 
 all : (c : Start) → length c.args.s.transfers ≡ 128
 all c = search (rules, unmapped)
+
 room : (c : Start) → c.args.s.pending < 128
 room c =
     let live = live_counted c.args.s (all c) c.requires.0 in

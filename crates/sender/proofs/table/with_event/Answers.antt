@@ -15,6 +15,7 @@ use Rattle.sender.proofs.table.with_event.Goals.{Start}
 
 all : (c : Start) → length c.args.s.events ≡ 256
 all c = search (rules, unmapped)
+
 room : (c : Start) → c.args.s.waiting < 256
 room c =
     let read = events_counted c.args.s (all c) c.requires.0 in

@@ -140,10 +140,14 @@ bounds-r-echo c =
     (free_now (view_of l.r).echoes l.invariant.echoes l.invariant.next l.r.last_ms (sym c.free_echo.ensures ∙ ap free_answer c.in-Echo.is)).0
 
 pub offset_bounds-r-echo : goal.offset_bounds-r-echo
-offset_bounds-r-echo c = let low : c.in-Echo.e < 128 = element-write-r c in omega (arith, low)
+unfolding view_of
+offset_bounds-r-echo c =
+    let low : c.in-Echo.e < 128 = (free_now (view_of c.loop-i.r).echoes c.loop-i.invariant.echoes c.loop-i.invariant.next c.loop-i.r.last_ms (sym c.free_echo.ensures ∙ ap free_answer c.in-Echo.is)).0 in omega (arith, low)
 
 pub overflow_add-r-in-Echo-3 : goal.overflow_add-r-in-Echo-3
-overflow_add-r-in-Echo-3 c = let low : c.in-Echo.e < 128 = element-write-r c in omega (arith, low)
+unfolding view_of
+overflow_add-r-in-Echo-3 c =
+    let low : c.in-Echo.e < 128 = (free_now (view_of c.loop-i.r).echoes c.loop-i.invariant.echoes c.loop-i.invariant.next c.loop-i.r.last_ms (sym c.free_echo.ensures ∙ ap free_answer c.in-Echo.is)).0 in omega (arith, low)
 
 pub number_after-requires : goal.number_after-requires
 number_after-requires c = tt
