@@ -1,5 +1,4 @@
 -- `inactivity::InactivityError::number` meets its contract. Assumes nothing.
--- there is one case
 use mathlib.Core.Path.{◌≡◌, refl}
 use Prim.Native.Nat.{ℕ}
 use Rattle.inactivity.specs.declared.InactivityError.{InactivityError}
@@ -7,6 +6,7 @@ use Rattle.inactivity.specs.declared.InactivityError.TheVariants.{ClockBackwards
 use Rattle.inactivity.specs.Inactivity.{clock_number}
 use Rattle.inactivity.proofs.InactivityError.number.Goals as goal
 
+-- there is one case
 one : (e : InactivityError) → ◌≡◌ {A = ℕ} 17 (clock_number e)
 one ClockBackwards = refl
 
