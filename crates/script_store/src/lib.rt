@@ -1,4 +1,6 @@
 // TAKE, PUT, FILL, DUMP and COPY on the store of 64 octets; MESSAGE on the message.
+#![tactic(auto)]
+
 ghost use Rattle.std.specs.Prelude.{◌≡◌, ◌+◌, ◌*◌, ◌≤◌, length};
 ghost use Rattle.script_wire.specs.Answer.{Ready, Answered};
 

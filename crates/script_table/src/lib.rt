@@ -1,4 +1,6 @@
 // The table of operations.
+#![tactic(auto)]
+
 ghost use Rattle.std.specs.Prelude.{◌≡◌, ◌≤◌, ◌<◌};
 ghost use Rattle.script_table.specs.Table.{operands_of, longest_of};
 

@@ -1,4 +1,6 @@
 // Numbers in octets, the upper octet first, and answers.
+#![tactic(auto)]
+
 ghost use Rattle.std.specs.Prelude.{◌≡◌, ◌+◌, ◌≤◌, ◌<◌, length};
 ghost use Rattle.script_wire.specs.Answer.{Kept, Answered};
 
