@@ -1,4 +1,6 @@
 // The port's side of the differential test: runs a script of operations and answers in octets.
+#![tactic(auto)]
+
 ghost use Rattle.std.specs.Prelude.{◌≡◌, ◌+◌, ◌≤◌, length, drop};
 ghost use Rattle.script_table.specs.Table.{operands_of, longest_of};
 ghost use Rattle.script_wire.specs.Answer.{Ready, Answered};

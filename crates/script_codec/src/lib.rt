@@ -1,4 +1,6 @@
 // The operations on frames, and on a message and its cut.
+#![tactic(auto)]
+
 pub mod operands;
 pub mod values;
 

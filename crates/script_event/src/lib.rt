@@ -1,4 +1,6 @@
 // What a procedure answers, in octets.
+#![tactic(auto)]
+
 pub mod values;
 
 ghost use Rattle.std.specs.Prelude.{◌+◌, ◌≤◌, length};

@@ -1,4 +1,6 @@
 // The operations on a procedure.
+#![tactic(auto)]
+
 pub mod calls;
 
 ghost use Rattle.std.specs.Prelude.{◌+◌, ◌≤◌, length};

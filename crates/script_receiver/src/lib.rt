@@ -1,4 +1,6 @@
 // The operations on a receiver.
+#![tactic(auto)]
+
 pub mod values;
 
 ghost use Rattle.std.specs.Prelude.{◌+◌, ◌≤◌, length};

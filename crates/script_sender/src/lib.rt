@@ -1,4 +1,6 @@
 // The port's side of the sender's comparison: a script of operations on a sender, answered in octets.
+#![tactic(auto)]
+
 pub mod calls;
 pub mod queries;
 pub mod replies;

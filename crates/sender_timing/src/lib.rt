@@ -1,4 +1,6 @@
 // The loop of a sender's calls, for timing.
+#![tactic(auto)]
+
 pub mod cycles;
 
 ghost use Rattle.sender.specs.Arrays.{Whole};
