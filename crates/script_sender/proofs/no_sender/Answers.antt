@@ -9,4 +9,4 @@ pub returns : goal.returns
 unfolding new_of
 returns c =
     let e = c.try_new.ensures in
-    record { whole = e.1 (ap (λ (made : Outcome Unit × View). made.0) e.0); octets = omega arith; words = omega arith }
+    record { whole = e.whole (ap (λ (made : Outcome Unit × View). made.0) e.result_value); octets = omega arith; words = omega arith }

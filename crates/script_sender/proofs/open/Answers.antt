@@ -12,7 +12,7 @@ returns-in-Refused c = c.closed.ensures
 pub with_sender-requires : goal.with_sender-requires
 with_sender-requires c =
     let made = c.try_new-made.ensures in
-    (c.requires, made.1 (ap verdict_of c.in_default.is))
+    (c.requires, made.whole (ap verdict_of c.in_default.is))
 
 pub returns : goal.returns
 returns c = c.with_sender.ensures

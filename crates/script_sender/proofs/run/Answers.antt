@@ -1,12 +1,13 @@
 -- `script_sender::run` meets its contract. Assumes nothing.
 use mathlib.Core.Path.{◌∙◌}
+use borrow.Author.Rules.{rules}
 use Rattle.script_sender.proofs.run.Goals as goal
 
 pub open-requires : goal.open-requires
 open-requires c = c.requires.0
 
 pub returns-then-op-eq39 : goal.returns-then-op-eq39
-returns-then-op-eq39 c = let p = c.requires in (c.«open».ensures, same_length c ∙ p.2, same-length-2 c ∙ p.3)
+returns-then-op-eq39 c = let p = c.requires in (c.«open».ensures, search rules, search rules)
 
 pub lend-requires : goal.lend-requires
 lend-requires c = c.requires.0
