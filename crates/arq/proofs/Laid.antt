@@ -9,7 +9,7 @@ use lib.Dec.{eqb}
 use lib.ListN.{length, take, drop, length-append, drop_of_length-le}
 use lib.Seq.{take_at, drop_at}
 use borrow.Author.Tests.{le-ltb}
-use Rattle.field.specs.Bits.{bit, value, bits_of, octets, field}
+use Rattle.field.specs.Bits.{bit, value, bits_of, field}
 use Rattle.field.specs.Layout.{layout, zeros, up_to, any_set}
 use Rattle.field.proofs.Laws.{field_right, length-octets}
 use Rattle.field.proofs.Layouts.{total, length-layout, place, width, number, layout-append, field-layout}

@@ -10,7 +10,7 @@ use lib.Count.{ones}
 use lib.Pow.{pow_pos}
 use lib.ListN.{length}
 use borrow.Author.Tests.{eq-eqb, eqb-true, not-false}
-use Rattle.field.specs.Bits.{Octets, octets}
+use Rattle.field.specs.Bits.{Octets}
 use Rattle.field.specs.Layout.{up_to}
 use Rattle.field.proofs.Laws.{length-octets}
 use Rattle.rach.specs.Identity.{encodable}
