@@ -36,7 +36,7 @@ use Rattle.procedure.specs.declared.SendEvent.TheVariants as sends
 use Rattle.procedure.specs.declared.ArqProcedure.{ArqProcedure}
 use Rattle.procedure.specs.Procedure.{Sound, with_timer, ended, active_of, says, due_at, advance_of, after_sent, status_sent_of}
 use Rattle.procedure.specs.Parts.{timed, ends_unpolled, accepted}
-use Rattle.procedure.specs.History.{Call, receive, advance, status_sent, reset, after, runs, Each, AcceptsFrame, Taken, AcceptsResult, AcceptsUnsolicited, Resets, EndsTransaction, present, Pending, NoSecond, Silent, EndsAt32, ForeignForEver}
+use Rattle.procedure.specs.History.{Call, receive, advance, status_sent, reset, after, runs, Each, AcceptsFrame, Taken, AcceptsResult, AcceptsUnsolicited, Resets, EndsTransaction, present, NoSecond, Silent, EndsAt32, ForeignForEver}
 use Rattle.procedure.proofs.Invariant.{sound_new, sound_receive, sound_advance, sound_status_sent, sound_reset}
 use Rattle.procedure.proofs.CallCases.{Clocked, reset_ways, due_ways, advance_ways, sent_ways, receive_ways}
 use Rattle.procedure.proofs.Steps.{tok, pends, Turnout, renews, keeps, newer, owned, at, turnout}

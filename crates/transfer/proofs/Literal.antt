@@ -1,5 +1,5 @@
 -- The Rust's `enqueue`, `advance` and the calls that make it, with every step as it is written, are the definitions. Assumes nothing.
-use mathlib.Core.Logic.{◌⊎◌, ⊎_elim}
+use mathlib.Core.Logic.{⊎_elim}
 use mathlib.Core.Path.{◌≡◌, refl, sym, ap, ap₂, subst, ◌∙◌}
 use mathlib.Core.Bool.{Bool, true, false, cond, not, ◌&&◌, ◌||◌, true≢false, or-false, and-false}
 use mathlib.Core.List.{List, [], ◌∷◌, map, foldl}

@@ -21,7 +21,6 @@ use Rattle.arq.specs.Encode.{encode_of}
 use Rattle.arq.specs.Cut.{count_of, frame_of}
 use Rattle.transfer.specs.declared.FrameToken.{FrameToken}
 use Rattle.transfer.specs.declared.Event.{Event}
-use Rattle.transfer.specs.declared.Event.TheVariants as events
 use Rattle.transfer.specs.declared.Since.{Since}
 use Rattle.transfer.specs.declared.Since.TheVariants.{Never, Block}
 use Rattle.transfer.specs.declared.Transfer.{Transfer}

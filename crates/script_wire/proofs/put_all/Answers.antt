@@ -1,5 +1,4 @@
 use mathlib.Core.Path.{refl}
-use Prim.Native.Nat.{◌-◌}
 use native.Mathlib.Omega.{arith}
 use Rattle.script_wire.proofs.Laws.{kept_none, kept_set}
 use borrow.Author.Rules.{rules}

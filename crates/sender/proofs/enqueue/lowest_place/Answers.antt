@@ -1,4 +1,3 @@
-use Prim.Native.Nat.{◌-◌}
 use native.Mathlib.Omega.{arith}
 use Rattle.sender.specs.Arrays.{view_of}
 use Rattle.sender.proofs.Granted.{Marked, full_more, lowest_here, lowest_none}

@@ -1,7 +1,6 @@
 use mathlib.Core.Path.{◌≡◌, sym, ap, ◌∙◌}
 use mathlib.Core.List.{map}
-use mathlib.Core.Logic.{⊎_elim}
-use Prim.Native.Nat.{ℕ, ◌+◌, ◌-◌, ◌≤◌}
+use Prim.Native.Nat.{ℕ, ◌+◌, ◌≤◌}
 use native.Mathlib.Omega.{arith}
 use borrow.Author.Rules.{rules}
 use lib.ListN.{length, take}
@@ -50,7 +49,7 @@ loop-i-preserved c =
     let a : ℕ = c.age_of-age.result in
     let next : oldest_on f s.transfers s.pending l.best l.top l.i ≡ oldest_on f s.transfers s.pending c.if-top-age.best c.if-top-age.top (l.i + 1) =
     elim c.if-top-age.branch [
-      then-top-age w ↦ rw (w.best-is, w.top-is) (older f s.transfers s.pending blank_transfer (fits (goal.at.loop-i-preserved c).Start) l.best l.top l.i a c.loop-i-test.true c.age_of-age.ensures w.if-top-age.true)
+      | then-top-age w ↦ rw (w.best-is, w.top-is) (older f s.transfers s.pending blank_transfer (fits (goal.at.loop-i-preserved c).Start) l.best l.top l.i a c.loop-i-test.true c.age_of-age.ensures w.if-top-age.true)
       | else-top-age w ↦ rw (w.best-is, w.top-is) (younger f s.transfers s.pending blank_transfer (fits (goal.at.loop-i-preserved c).Start) l.best l.top l.i a c.loop-i-test.true c.age_of-age.ensures w.if-top-age.false)
     ] in
     (omega arith, l.invariant.1 ∙ next)

@@ -40,10 +40,13 @@ unfolding view_of
 returns c =
     let a = c.args in
     let v = view_of a.s in
-    let f = c.pushed-r.ensures.0 in record { fitted = (
+    let f = c.pushed-r.ensures.0 in record {
+      fitted = (
         record { pending = f.pending; waiting = f.waiting },
         ap (λ (o : Option PreparedFrame). with_selected (view_of c.pushed-r.result) o) (ap selection_of c.unselected-nothing.ensures) ∙
             (ap (λ (u : View). with_selected u none) c.pushed-r.ensures.1 ∙
             (ap (λ (u : View). with_selected (kept u c.in_flight-y.result) none) c.removed.ensures.1 ∙
             ap (λ (y : Transfer). with_selected (kept (with_transfers v (remove_at a.place v.transfers)) y) none) c.in_flight-y.ensures)),
-      ); words_after = refl }
+      );
+      words_after = refl;
+    }

@@ -11,8 +11,7 @@ unselect-r-requires c = tt
 
 pub returns : goal.returns
 unfolding view_of
-returns c =
-    (
-      record { pending = c.requires.pending; waiting = c.requires.waiting },
-      ap (λ (o : Option PreparedFrame). with_selected (view_of c.args.s) o) c.unselect-r.ensures,
-    )
+returns c = (
+  record { pending = c.requires.pending; waiting = c.requires.waiting },
+  ap (λ (o : Option PreparedFrame). with_selected (view_of c.args.s) o) c.unselect-r.ensures,
+)

@@ -1,4 +1,4 @@
-use Prim.Native.Nat.{ℕ, ◌-◌}
+use Prim.Native.Nat.{ℕ}
 use native.Mathlib.Omega.{arith}
 use Rattle.transfer.proofs.EchoSearch.{around_here, around_next, around_none}
 use Rattle.transfer.proofs.echo.free_echo.Goals as goal
