@@ -7,10 +7,10 @@ ghost use Rattle.listing.specs.Session.{new_session, Read as MayRead, Chunk, Chu
 use super::Session;
 use super::first::put_first;
 use super::last::put_last;
+use reading::Got;
 use receiver::ArqReassembler;
 use spach::Verdict;
-use std::io;
-use std::io::{ErrorKind, Read, Write};
+use std::io::{Read, Write};
 
 // What a chunk came to: the session, how many octets are left to read, how many of the chunk are a cut frame, whether the
 // input may go on, and whether it could not be read on.
@@ -23,68 +23,10 @@ struct Turn {
     pub failed: bool,
 }
 
-// How many octets were read, and whether that was cut short by a read that failed.
-#[derive(Clone, Copy)]
-struct Got {
-    pub count: usize,
-    pub failed: bool,
-}
-
 fn lesser(a: u64, b: u64) -> u64
     ensures { (result ≤ a) × (result ≤ b) }
 {
     if a < b { a } else { b }
-}
-
-// A read that a signal interrupts is made again; any other error is a failure.
-fn cannot_read(error: &io::Error) -> bool {
-    error.kind() != ErrorKind::Interrupted
-}
-
-// One read. None is read at the end, and where reading fails.
-fn read_once<R: Read>(input: &mut R, room: &mut [u8]) -> Got
-    ensures { (result.count ≤ length room.new) × (result.failed ≡ true → result.count ≡ 0) }
-{
-    for _ in 0..u64::MAX {
-        match input.read(room) {
-            Ok(count) => {
-                return Got {
-                    count: count,
-                    failed: false,
-                };
-            }
-            Err(error) => {
-                if cannot_read(&error) {
-                    break;
-                }
-            }
-        }
-    }
-    Got {
-        count: 0,
-        failed: true,
-    }
-}
-
-// Reads until the room is full, the input ends or a read fails.
-fn fill<R: Read>(input: &mut R, room: &mut [u8]) -> Got
-    ensures { IsPrefixLen result.count room.new × (result.failed ≡ true → result.count < length room.new) }
-{
-    let mut count: usize = 0;
-    while count < room.len() {
-        let got = read_once(input, &mut room[count..]);
-        if got.count == 0 {
-            return Got {
-                count: count,
-                failed: got.failed,
-            };
-        }
-        count += got.count;
-    }
-    Got {
-        count: count,
-        failed: false,
-    }
 }
 
 // Reads until the room is full, `left` octets are read, the input ends or a read fails.
@@ -92,10 +34,10 @@ fn read_some<R: Read>(input: &mut R, room: &mut [u8], left: u64) -> Got
     ensures { IsPrefixLen result.count room.new × (result.count ≤ left) × (result.failed ≡ true → result.count < length room.new) }
 {
     let want = lesser(left, room.len() as u64) as usize;
-    fill(input, &mut room[..want])
+    reading::fill(input, &mut room[..want])
 }
 
-// A failed write is not told: the lines that are lost are missed by whoever reads them.
+// A write that fails is passed over: whoever takes the lines misses them.
 fn say<W: Write>(output: &mut W, line: &[u8]) {
     let _ = output.write_all(line);
 }

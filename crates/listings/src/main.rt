@@ -14,7 +14,7 @@ fn wide(x: u8) -> u64
 // Lists the next input. Answers whether there was one.
 fn list_next<R: Read, W: Write>(input: &mut R, output: &mut W) -> bool {
     let mut length = [0u8; 2];
-    if input.read_exact(&mut length).is_err() {
+    if reading::fill(input, &mut length).count < 2 {
         return false;
     }
     let most = wide(length[0]) * 256 + wide(length[1]);

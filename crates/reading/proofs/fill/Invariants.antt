@@ -1,6 +1,6 @@
--- `listing::show::fill` meets its contract: what was read fits the room. Assumes nothing.
+-- `reading::fill` meets its contract: what was read fits the room. Assumes nothing.
 use Rattle.std.proofs.Common.{length, ◌-◌, ◌≤◌}
-use Rattle.listing.proofs.show.fill.Given as goal
+use Rattle.reading.proofs.fill.Given as goal
 
 abbrev pub invariant-loop-count : goal.invariant-loop-count
 invariant-loop-count g l = l.count ≤ length l.room
