@@ -1,5 +1,3 @@
-
-
 use Rattle.receiver.proofs.ArqReassembler.reset.Goals as goal
 
 pub returns : goal.returns
