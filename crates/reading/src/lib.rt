@@ -1,7 +1,8 @@
 // Reads octets into a lent buffer, so that an end is told from a failure.
 #![tactic(auto)]
 
-ghost use Rattle.std.specs.Prelude.{◌≡◌, true, ◌≤◌, ◌<◌, length};
+ghost use Rattle.std.specs.Prelude.{◌≡◌, true, false, ◌≤◌, ◌<◌, length, take};
+ghost use Rattle.std.specs.Io.KnownBytes.{Consumes, IsAtEnd};
 ghost use Rattle.io.specs.Counts.{IsPrefixLen};
 
 use std::io;
@@ -21,7 +22,10 @@ fn cannot_read(error: &io::Error) -> bool {
 
 // One read. None is read at the end, where there is no room, and where reading fails.
 fn read_once<R: Read>(input: &mut R, room: &mut [u8]) -> Got
-    ensures { (result.count ≤ length room.new) × (result.failed ≡ true → result.count ≡ 0) }
+    ensures bound { result.count ≤ length room.new }
+    ensures none { result.failed ≡ true → result.count ≡ 0 }
+    ensures bytes { Consumes (R.remaining input.old) (R.remaining input.new) (take result.count room.new) }
+    ensures end { result.failed ≡ false → result.count ≡ 0 → 0 < length room.new → IsAtEnd (R.remaining input.new) }
 {
     for _ in 0..u64::MAX {
         match input.read(room) {
@@ -46,7 +50,10 @@ fn read_once<R: Read>(input: &mut R, room: &mut [u8]) -> Got
 
 // Reads until the room is full, the input ends or a read fails.
 pub fn fill<R: Read>(input: &mut R, room: &mut [u8]) -> Got
-    ensures { IsPrefixLen result.count room.new × (result.failed ≡ true → result.count < length room.new) }
+    ensures inside { IsPrefixLen result.count room.new }
+    ensures short { result.failed ≡ true → result.count < length room.new }
+    ensures bytes { Consumes (R.remaining input.old) (R.remaining input.new) (take result.count room.new) }
+    ensures end { result.failed ≡ false → result.count < length room.new → IsAtEnd (R.remaining input.new) }
 {
     let mut count: usize = 0;
     while count < room.len() {
