@@ -1,7 +1,8 @@
 // Reads octets into a lent buffer, so that an end is told from a failure.
 #![tactic(auto)]
 
-ghost use Rattle.std.specs.Prelude.{◌≡◌, true, false, ◌≤◌, ◌<◌, length, take};
+ghost use Rattle.std.specs.Prelude.{◌≡◌, ◌≢◌, ◌↔◌, true, false, IsTrue, ◌≤◌, ◌<◌, length, take};
+ghost use Rattle.std.specs.IoError.{error_kind};
 ghost use Rattle.std.specs.Io.KnownBytes.{Consumes, IsAtEnd};
 ghost use Rattle.io.specs.Counts.{IsPrefixLen};
 
@@ -16,7 +17,9 @@ pub struct Got {
 }
 
 // A read that a signal interrupts is made again; any other error is a failure.
-fn cannot_read(error: &io::Error) -> bool {
+fn cannot_read(error: &io::Error) -> bool
+    ensures { IsTrue result ↔ (error_kind error.now ≢ ErrorKind.Interrupted) }
+{
     error.kind() != ErrorKind::Interrupted
 }
 
