@@ -1,4 +1,6 @@
 // Octets in lower-case hex, 32 to a line.
+#![tactic(auto)]
+
 ghost use Rattle.std.specs.Prelude.{◌≡◌, ◌++◌, ◌+◌, ◌*◌, ◌<◌, ◌≤◌, length, take};
 ghost use Rattle.hex_lines.specs.Hex.{digit_of, ends_line, octet_text, text_of};
 

@@ -1,7 +1,10 @@
 // Runs the script on standard input, and prints the answers in hex, 32 octets to a line.
+#![tactic(auto)]
+
 ghost use Rattle.std.specs.Prelude.{◌*◌, ◌≤◌, length};
 
-use libc::{STDIN_FILENO, STDOUT_FILENO};
+use std::io;
+use std::io::Write;
 
 // Runs the script, with `answers` as room for the answers; how long their text is.
 fn replay(script: &[u8], answers: &mut [u8], text: &mut [u8]) -> usize
@@ -12,15 +15,16 @@ fn replay(script: &[u8], answers: &mut [u8], text: &mut [u8]) -> usize
     hex_lines::hex(&answers[0..count], text)
 }
 
-fn main() {
+fn main(rt: HostRuntime) -> io::Result<()> {
+    let mut source = rt.stdin();
+    let mut output = rt.stdout();
     let mut input = [0u8; 65537];
-    let n = io::read_full(STDIN_FILENO, &mut input);
+    let n = reading::fill(&mut source, &mut input).count;
     if 65536 < n {
-        io::write_all(STDOUT_FILENO, b"too long\n");
-        return;
+        return output.write_all(b"too long\n");
     }
     let mut answers = [0u8; 65536];
     let mut text = [0u8; 196608];
     let end = replay(&input[..n], &mut answers, &mut text);
-    io::write_all(STDOUT_FILENO, &text[0..end]);
+    output.write_all(&text[0..end])
 }
