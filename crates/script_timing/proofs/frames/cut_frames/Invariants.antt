@@ -1,5 +1,5 @@
 -- `frames::cut_frames` meets its contract. Assumes nothing.
-use Rattle.std.proofs.Common.{◌-◌, ◌≤◌, rules}
+use Rattle.std.proofs.Common.{◌-◌, ◌≤◌}
 use Rattle.script_timing.proofs.frames.cut_frames.Given as goal
 
 abbrev pub invariant-loop-k : goal.invariant-loop-k

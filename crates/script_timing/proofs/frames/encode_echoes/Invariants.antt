@@ -1,5 +1,5 @@
 -- `frames::encode_echoes` meets its contract. Assumes nothing.
-use Rattle.std.proofs.Common.{◌-◌, ◌≤◌, rules}
+use Rattle.std.proofs.Common.{◌-◌, ◌≤◌}
 use Rattle.script_timing.proofs.frames.encode_echoes.Given as goal
 
 abbrev pub invariant-loop-echo : goal.invariant-loop-echo

@@ -1,5 +1,5 @@
 -- `lives::procedures` meets its contract. Assumes nothing.
-use Rattle.std.proofs.Common.{◌≡◌, ◌-◌, ◌≤◌, length, rules}
+use Rattle.std.proofs.Common.{◌≡◌, ◌-◌, ◌≤◌, length}
 use Rattle.procedure.specs.Procedure.{Sound}
 use Rattle.script_timing.proofs.lives.procedures.Given as goal
 

@@ -1,5 +1,5 @@
 -- `lives::pushes` meets its contract. Assumes nothing.
-use Rattle.std.proofs.Common.{◌≡◌, ◌-◌, ◌≤◌, length, rules}
+use Rattle.std.proofs.Common.{◌≡◌, ◌-◌, ◌≤◌, length}
 use Rattle.script_timing.proofs.lives.pushes.Given as goal
 
 abbrev pub invariant-loop-at : goal.invariant-loop-at

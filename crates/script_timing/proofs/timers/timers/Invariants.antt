@@ -1,5 +1,5 @@
 -- `timers::timers` meets its contract. Assumes nothing.
-use Rattle.std.proofs.Common.{◌-◌, length, rules}
+use Rattle.std.proofs.Common.{◌-◌, length}
 use Rattle.inactivity.specs.Inactivity.{Sound}
 use Rattle.script_timing.proofs.timers.timers.Given as goal
 
