@@ -11,7 +11,7 @@ FALLS = {
     "beginData": "begin_data_lem", "continueData": "continue_data_lem", "messageOctets": "message_octets_lem",
     "inFlight": "in_flight_lem", "beginBits": "begin_bits_lem",
     "goes_on": "goes_on_lem", "let_through": "let_through_lem", "such_in": "such_in_lem", "address_on": "address_on_lem",
-    "header-on": "header_on_lem",
+    "header-on": "header_on_lem", "next-echo": "next_echo",
     "CancelAll": "CancelAll", "CancelTransaction": "CancelTransaction",
 }
 # the library's functions that a lemma's name may join
