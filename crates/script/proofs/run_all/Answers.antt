@@ -1,5 +1,4 @@
 use mathlib.Core.Path.{refl}
-use Prim.Native.Nat.{◌-◌}
 use native.Mathlib.Omega.{arith}
 use Rattle.script_wire.proofs.Laws.{kept_none, kept_join}
 use Rattle.script_table.proofs.Laws.{known_first, known_last}

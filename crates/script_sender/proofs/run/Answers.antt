@@ -1,5 +1,4 @@
 -- `script_sender::run` meets its contract. Assumes nothing.
-use mathlib.Core.Path.{◌∙◌}
 use borrow.Author.Rules.{rules}
 use Rattle.script_sender.proofs.run.Goals as goal
 

@@ -1,5 +1,5 @@
 -- `sender_timing::time_sender` meets its contract. Assumes nothing.
-use Rattle.std.proofs.Common.{◌≡◌, ◌-◌, ◌≤◌, length, rules}
+use Rattle.std.proofs.Common.{◌≡◌, ◌-◌, ◌≤◌, length}
 use Rattle.sender.specs.Arrays.{Whole}
 use Rattle.sender_timing.proofs.time_sender.Given as goal
 

@@ -1,5 +1,5 @@
 -- `cycles::emptied` meets its contract. Assumes nothing.
-use Rattle.std.proofs.Common.{◌≡◌, length, rules}
+use Rattle.std.proofs.Common.{◌≡◌, length}
 use Rattle.sender.specs.Arrays.{Whole}
 use Rattle.sender_timing.proofs.cycles.emptied.Given as goal
 
