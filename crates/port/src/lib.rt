@@ -1,4 +1,6 @@
 // The port as the oracle links it: one library that exports what its driver and its timing program call.
+#![tactic(auto)]
+
 ghost use Rattle.std.specs.Prelude.{◌≡◌, ◌≤◌, length, drop};
 
 #[unsafe(no_mangle)]
