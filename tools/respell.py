@@ -4,7 +4,7 @@
 # Words are in snake case: a camel case word that begins small, a record's field, a lemma's name. A dash stays in a lemma's name
 # where it joins the names of two functions, as in `bits-append`. Names that would fall together are in FALLS. Functions of src/,
 # exported names, strings, inputs and outputs keep their names. Must-fail edits and wrong/ are turned elsewhere.
-import glob, re
+import glob, os, re, subprocess
 
 # names that would fall together with a field, or with another name
 FALLS = {
@@ -50,7 +50,8 @@ for f in files:
 
 # the library's names: a lemma does not take one
 library = set()
-for f in glob.glob("/opt/rattle/rattle/**/*.antt", recursive=True):
+kit = os.path.dirname(subprocess.run(["rt", "doc"], capture_output=True, text=True).stdout.strip())
+for f in glob.glob(kit + "/rattle/**/*.antt", recursive=True):
     for line in open(f, encoding="utf-8", errors="replace"):
         m = re.match(r"(?:(?:abbrev|unfoldable|pub|ruleset) )+([a-z][\w'-]*)", line)
         if m:
