@@ -6,9 +6,9 @@ use borrow.Author.Rules.{rules}
 use Rattle.listing.proofs.Sessions.{chunks_none, chunks_more, full_uncut, full_less}
 use Rattle.listing.proofs.show.show_chunks.Goals as goal
 
-turn-less : (m : Bool) (a b : ℕ) → (m ≡ true → a < b) → cond m (suc a) 0 < suc b
-turn-less true a b f = omega (arith, f refl)
-turn-less false a b f = omega arith
+turn_less : (m : Bool) (a b : ℕ) → (m ≡ true → a < b) → cond m (suc a) 0 < suc b
+turn_less true a b f = omega (arith, f refl)
+turn_less false a b f = omega arith
 
 pub loop-t-init : goal.loop-t-init
 loop-t-init g c =
@@ -21,7 +21,7 @@ show_chunk-t-requires g c = c.loop-t.invariant.0
 pub loop-t-smaller : goal.loop-t-smaller
 loop-t-smaller g c =
     let t = c.loop-t.t in
-    rw c.loop-t-test.true (turn-less c.show_chunk-t.result.more c.show_chunk-t.result.left t.left (full_less c.show_chunk-t.ensures.0))
+    rw c.loop-t-test.true (turn_less c.show_chunk-t.result.more c.show_chunk-t.result.left t.left (full_less c.show_chunk-t.ensures.0))
 
 pub loop-t-preserved : goal.loop-t-preserved
 loop-t-preserved g c =

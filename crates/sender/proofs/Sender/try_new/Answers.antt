@@ -36,22 +36,22 @@ refused : {v : View} {o : Outcome View} → v ≡ blank_view → o ≡ refuses 1
 refused e q = ap (beside (refuses 19)) e ∙ sym (ap (answered blank_view) q)
 
 -- a refusal accepts nothing
-no-sender : {X : Type 0} → ◌≡◌ {A = Outcome Unit} (refuses 19) (gives tt) → X
-no-sender e = let z : ◌≡◌ {A = ℕ} 0 1 = cc in absurd (omega arith)
+no_sender : {X : Type 0} → ◌≡◌ {A = Outcome Unit} (refuses 19) (gives tt) → X
+no_sender e = let z : ◌≡◌ {A = ℕ} 0 1 = cc in absurd (omega arith)
 
 pub fresh-requires : goal.fresh-requires
 fresh-requires c = tt
 
 pub returns-then-capacity-eq0 : goal.returns-then-capacity-eq0
 returns-then-capacity-eq0 c =
-    let a = c.args in record { result_value = refused c.fresh.ensures.1 (none-held a.capacity a.echo_guard_ms a.startup_until_block a.first c.if-capacity-eq0.true); whole = λ q. no-sender q }
+    let a = c.args in record { result_value = refused c.fresh.ensures.1 (none-held a.capacity a.echo_guard_ms a.startup_until_block a.first c.if-capacity-eq0.true); whole = λ q. no_sender q }
 
 pub fresh-requires-then-capacity-gt-ECHO_VALUES : goal.fresh-requires-then-capacity-gt-ECHO_VALUES
 fresh-requires-then-capacity-gt-ECHO_VALUES c = tt
 
 pub returns-then-capacity-gt-ECHO_VALUES : goal.returns-then-capacity-gt-ECHO_VALUES
 returns-then-capacity-gt-ECHO_VALUES c =
-    let a = c.args in record { result_value = refused c.fresh-then-capacity-gt-ECHO_VALUES.ensures.1 (too_large a.capacity a.echo_guard_ms a.startup_until_block a.first c.if-capacity-eq0.false c.if-capacity-gt-ECHO_VALUES.true); whole = λ q. no-sender q }
+    let a = c.args in record { result_value = refused c.fresh-then-capacity-gt-ECHO_VALUES.ensures.1 (too_large a.capacity a.echo_guard_ms a.startup_until_block a.first c.if-capacity-eq0.false c.if-capacity-gt-ECHO_VALUES.true); whole = λ q. no_sender q }
 
 pub fresh-requires-2 : goal.fresh-requires-2
 fresh-requires-2 c = tt

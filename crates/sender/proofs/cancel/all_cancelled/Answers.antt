@@ -15,7 +15,7 @@ use Rattle.sender.specs.Arrays.{selection_of, view_of}
 use Rattle.sender.proofs.Oldest.{behind_none, behind_more}
 use Rattle.sender.proofs.Slots.{unmapped}
 use Rattle.sender.proofs.Turns.{room_first}
-use Rattle.sender.proofs.cancel.all_cancelled.Invariants.{eventOf, cancelled}
+use Rattle.sender.proofs.cancel.all_cancelled.Invariants.{event_of, cancelled}
 use Rattle.sender.proofs.cancel.all_cancelled.Goals as goal
 use Rattle.sender.proofs.cancel.all_cancelled.Goals.{Start}
 
@@ -33,7 +33,7 @@ pub loop-i-init : goal.loop-i-init
 loop-i-init c =
     let s = c.args.s in
     let fit = room (goal.at.loop-i-init c).Start in
-    (omega arith, c.requires.fitted.pending, omega arith, refl, slots (goal.at.loop-i-init c).Start, behind_none eventOf cancelled s.events s.transfers s.waiting, refl)
+    (omega arith, c.requires.fitted.pending, omega arith, refl, slots (goal.at.loop-i-init c).Start, behind_none event_of cancelled s.events s.transfers s.waiting, refl)
 
 pub offset_bounds-r-i : goal.offset_bounds-r-i
 offset_bounds-r-i c = omega arith
@@ -65,8 +65,8 @@ loop-i-preserved c =
     let long = all (goal.at.loop-i-preserved c).Start in
     let low = c.loop-i-test.true in
     let x : EventSlot = record { event = cancelled (get_or l.r.transfers l.i blank_transfer) } in
-    let same : eventOf x ≡ cancelled (get_or s.transfers l.i blank_transfer) = ap (λ (t : List Transfer). cancelled (get_or t l.i blank_transfer)) v.3 in
-    (omega arith, v.1, v.2, v.3, length-set l.r.events (s.waiting + l.i) x ∙ v.4, behind_more eventOf cancelled s.events l.r.events s.transfers s.waiting l.i x blank_transfer (omega arith) (omega arith) same v.5, v.6)
+    let same : event_of x ≡ cancelled (get_or s.transfers l.i blank_transfer) = ap (λ (t : List Transfer). cancelled (get_or t l.i blank_transfer)) v.3 in
+    (omega arith, v.1, v.2, v.3, length-set l.r.events (s.waiting + l.i) x ∙ v.4, behind_more event_of cancelled s.events l.r.events s.transfers s.waiting l.i x blank_transfer (omega arith) (omega arith) same v.5, v.6)
 
 pub unselected-r-requires : goal.unselected-r-requires
 unselected-r-requires c = tt
@@ -81,8 +81,8 @@ returns c =
     let l = c.loop-i in
     let v = l.invariant in
     let ended : l.i ≡ s.pending = omega arith in
-    let events : List Event = map eventOf (take s.waiting s.events) ++ map cancelled (take s.pending s.transfers) in
-    let read : map eventOf (take (s.waiting + s.pending) l.r.events) ≡ events = rw (← ended) v.5 in (
+    let events : List Event = map event_of (take s.waiting s.events) ++ map cancelled (take s.pending s.transfers) in
+    let read : map event_of (take (s.waiting + s.pending) l.r.events) ≡ events = rw (← ended) v.5 in (
       record { pending = omega arith; waiting = omega arith },
       ap (λ (k : List Event). with_selected (with_transfers (with_events (view_of l.r) k) []) (selection_of c.unselected-r.result)) read ∙
           (ap (λ (o : Option PreparedFrame). with_selected (with_transfers (with_events (view_of l.r) events) []) o) (ap selection_of c.unselected-r.ensures) ∙

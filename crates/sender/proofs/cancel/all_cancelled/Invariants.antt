@@ -13,8 +13,8 @@ use Rattle.sender.proofs.Oldest.{Behind}
 use Rattle.sender.proofs.cancel.all_cancelled.Given as goal
 
 -- the event of a slot
-abbrev pub eventOf : EventSlot → Event
-eventOf e = e.event
+abbrev pub event_of : EventSlot → Event
+event_of e = e.event
 
 -- that of a transfer that is cancelled
 abbrev pub cancelled : Transfer → Event
@@ -22,7 +22,7 @@ cancelled x = Cancelled x.parcel.completion
 
 abbrev pub invariant-loop-i : goal.invariant-loop-i
 invariant-loop-i l =
-    (l.i ≤ l.n) × (l.n ≤ 128) × (l.m + l.n ≤ 256) × (l.r.transfers ≡ l.initial.r.transfers) × (length l.r.events ≡ 256) × Behind eventOf cancelled l.initial.r.events l.r.events l.initial.r.transfers l.m l.i × (with_events (view_of l.r) [] ≡ with_events (view_of l.initial.r) [])
+    (l.i ≤ l.n) × (l.n ≤ 128) × (l.m + l.n ≤ 256) × (l.r.transfers ≡ l.initial.r.transfers) × (length l.r.events ≡ 256) × Behind event_of cancelled l.initial.r.events l.r.events l.initial.r.transfers l.m l.i × (with_events (view_of l.r) [] ≡ with_events (view_of l.initial.r) [])
 
 abbrev pub decreases-loop-i : goal.decreases-loop-i
 decreases-loop-i l = l.n - l.i

@@ -19,18 +19,18 @@ all : (c : Start) → length c.args.s.events ≡ 256
 all c = search (rules, unmapped)
 
 -- an event waits
-some-wait : (c : Start) → 0 < c.args.s.waiting
-some-wait c =
+some_wait : (c : Start) → 0 < c.args.s.waiting
+some_wait c =
     let read = events_counted c.args.s (all c) c.requires.0 in
     let more = c.requires.1 in
     omega arith
 
 pub overflow_sub-m : goal.overflow_sub-m
-overflow_sub-m c = let more = some-wait (goal.at.overflow_sub-m c).Start in omega arith
+overflow_sub-m c = let more = some_wait (goal.at.overflow_sub-m c).Start in omega arith
 
 pub loop-i-init : goal.loop-i-init
 loop-i-init c =
-    let more = some-wait (goal.at.loop-i-init c).Start in
+    let more = some_wait (goal.at.loop-i-init c).Start in
     let low = c.requires.0.waiting in
     (omega arith, omega arith, refl, shift_none c.args.s.events 0, refl)
 
@@ -69,7 +69,7 @@ returns c =
     let s = c.args.s in
     let l = c.loop-i in
     let v = l.invariant in
-    let more = some-wait (goal.at.returns c).Start in
+    let more = some_wait (goal.at.returns c).Start in
     let long = all (goal.at.returns c).Start in
     let low = c.requires.0.pending in
     let most = c.requires.0.waiting in

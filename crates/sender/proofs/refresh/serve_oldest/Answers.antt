@@ -20,9 +20,9 @@ use Rattle.sender.proofs.refresh.serve_oldest.Goals as goal
 use Rattle.sender.proofs.refresh.serve_oldest.Goals.{Start}
 
 -- while a frame is selected the order stays
-serve-held : (v : View) (f : PreparedFrame) → v.selected ≡ some f → v ≡ serve_oldest v
+serve_held : (v : View) (f : PreparedFrame) → v.selected ≡ some f → v ≡ serve_oldest v
 unfolding serve_oldest
-serve-held v f e = sym (ap (λ (o : Option PreparedFrame). oldest_first v o) e)
+serve_held v f e = sym (ap (λ (o : Option PreparedFrame). oldest_first v o) e)
 
 module _ (v : View) (place : ℕ) (free : v.selected ≡ none) (found : place ≡ oldest v.clock.last_block v.transfers) where
   -- else the transfer at the place found goes to the front
@@ -55,7 +55,7 @@ pub returns-then-selected : goal.returns-then-selected
 unfolding view_of
 returns-then-selected c =
     let s = c.args.s in
-    (c.requires, serve-held (view_of s) s.selected.frame (ap (λ (h : Bool). cond h (some s.selected.frame) none) c.if-selected.true))
+    (c.requires, serve_held (view_of s) s.selected.frame (ap (λ (h : Bool). cond h (some s.selected.frame) none) c.if-selected.true))
 
 pub returns-then-s-place : goal.returns-then-s-place
 unfolding view_of

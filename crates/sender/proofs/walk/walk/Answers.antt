@@ -10,6 +10,7 @@ use Rattle.sender.specs.Arrays.{view_of}
 use Rattle.sender.proofs.Slots.{unmapped}
 use Rattle.sender.proofs.Turns.{walkable, room_first, here, turn_stays, turn_ends, turn_fails, turn_begins, turned_all}
 use Rattle.sender.proofs.walk.walk.Goals as goal
+use Rattle.sender.proofs.walk.walk.Goals.{In-Echo}
 
 pub loop-i-init : goal.loop-i-init
 unfolding view_of
@@ -133,21 +134,21 @@ overflow_add-r-in-Echo-2 c =
     let h = here c.loop-i.invariant c.loop-i-test.true in
     omega (arith, h.fits)
 
-pub bounds-r-echo : goal.bounds-r-echo
+-- the echo that was found is one of the 128
+echo_low : (c : In-Echo) → c.in-Echo.e < 128
 unfolding view_of
-bounds-r-echo c =
+echo_low c =
     let l = c.loop-i in
     (free_now (view_of l.r).echoes l.invariant.echoes l.invariant.next l.r.last_ms (sym c.free_echo.ensures ∙ ap free_answer c.in-Echo.is)).0
 
+pub bounds-r-echo : goal.bounds-r-echo
+bounds-r-echo c = echo_low (goal.at.bounds-r-echo c).In-Echo
+
 pub offset_bounds-r-echo : goal.offset_bounds-r-echo
-unfolding view_of
-offset_bounds-r-echo c =
-    let low : c.in-Echo.e < 128 = (free_now (view_of c.loop-i.r).echoes c.loop-i.invariant.echoes c.loop-i.invariant.next c.loop-i.r.last_ms (sym c.free_echo.ensures ∙ ap free_answer c.in-Echo.is)).0 in omega (arith, low)
+offset_bounds-r-echo c = let low = echo_low (goal.at.offset_bounds-r-echo c).In-Echo in omega (arith, low)
 
 pub overflow_add-r-in-Echo-3 : goal.overflow_add-r-in-Echo-3
-unfolding view_of
-overflow_add-r-in-Echo-3 c =
-    let low : c.in-Echo.e < 128 = (free_now (view_of c.loop-i.r).echoes c.loop-i.invariant.echoes c.loop-i.invariant.next c.loop-i.r.last_ms (sym c.free_echo.ensures ∙ ap free_answer c.in-Echo.is)).0 in omega (arith, low)
+overflow_add-r-in-Echo-3 c = let low = echo_low (goal.at.overflow_add-r-in-Echo-3 c).In-Echo in omega (arith, low)
 
 pub number_after-requires : goal.number_after-requires
 number_after-requires c = tt
