@@ -7,7 +7,7 @@ use native.Mathlib.Omega.{arith}
 use lib.Dec.{ltb}
 use lib.ListN.{length, take, drop, length-drop}
 use lib.Seq.{take-nil, take-length}
-use borrow.Author.Tests.{ltb-false, lt-ltb, le-ltb}
+use borrow.Author.Tests.{lt-ltb, le-ltb}
 use Rattle.field.specs.Bits.{bits_of, octets}
 use Rattle.field.specs.Layout.{up_to}
 use Rattle.field.proofs.Laws.{length-bits_of}
@@ -15,17 +15,12 @@ use Rattle.field.proofs.Put.{take_min}
 use Rattle.rach.specs.Identity.{parts_of}
 use Rattle.rach.specs.declared.IdentityParts.{IdentityParts}
 use Rattle.rach.specs.declared.MobileIdentity.{MobileIdentity}
-use Rattle.spach.specs.declared.SpachError.{SpachError}
-use Rattle.spach.specs.declared.Verdict.{Verdict}
-use Rattle.spach.specs.declared.Verdict.TheVariants.{Accepted, Refused}
-use Rattle.spach.specs.Refusal.{Outcome, gives, refuses, refuse, number_of, verdict_of}
-use Rattle.spach.specs.Answered.{answered}
-use Rattle.spach.proofs.Outcomes.{passed}
+use Rattle.spach.specs.Refusal.{Outcome, gives, refuses, refuse}
 use Rattle.arq.specs.declared.ArqHeader.{ArqHeader}
 use Rattle.arq.specs.declared.ArqFrame.{ArqFrame}
-use Rattle.arq.specs.Frame.{room, a_begin_of, a_continue_of, blank_frame}
+use Rattle.arq.specs.Frame.{room, a_begin_of, a_continue_of}
 use Rattle.arq.specs.Cut.{continues, cut_checked, cut_frame, count_of, frame_of}
-use Rattle.arq.proofs.Checks.{checked, refuse_checked, verdict_refused, verdict_passed}
+use Rattle.arq.proofs.Checks.{good, checked, refuse_checked, checks_refuse, checks_pass}
 
 -- ---- data
 
@@ -41,25 +36,23 @@ filled_once (suc n) zero l = refl
 filled_once (suc n) (suc w) [] = ap (λ x. false ∷ x) (ap (up_to n) (sym (take-nil w)) ∙ filled_once n w [])
 filled_once (suc n) (suc w) (b ∷ l) = ap (λ x. b ∷ x) (filled_once n w l)
 
-module _ (m : List ℕ) {k : ℕ} {o : List ℕ} where
-  pub begin_data : (r : ℕ) → k ≡ min r (8 * length m) → o ≡ octets 7 (up_to 56 (take k (bits_of m))) → o ≡ octets 7 (up_to 56 (take r (bits_of m)))
-  begin_data r ek eo = eo ∙ ap (λ l. octets 7 (up_to 56 l)) (fewer (bits_of m) r (ek ∙ ap (min r) (sym (length-bits_of m))))
-
-  pub continue_data : (s : ℕ) → k ≡ min 79 (8 * length m - s) → o ≡ octets 10 (up_to 80 (take k (drop s (bits_of m)))) → o ≡ octets 10 (up_to 80 (up_to 79 (drop s (bits_of m))))
-  continue_data s ek eo =
-      let l : List Bool = drop s (bits_of m) in
-      let e : 8 * length m - s ≡ length l = sym (length-drop s (bits_of m) ∙ ap (λ x. x - s) (length-bits_of m)) in
-      eo ∙ ap (octets 10) (ap (up_to 80) (fewer l 79 (ek ∙ ap (min 79) e)) ∙ filled_once 80 79 l)
-
 module _ (h : ArqHeader) (i : MobileIdentity) (m : List ℕ) where
   -- ---- the frames
-  pub begin_cut : {r b : ℕ} {o : List ℕ} {f : ArqFrame} → r ≡ room i → b ≡ min (8 * length m) r → o ≡ octets 7 (up_to 56 (take r (bits_of m)))
+  pub begin_cut : {r b : ℕ} {o : List ℕ} {f : ArqFrame} → r ≡ room i → b ≡ min r (8 * length m) → o ≡ octets 7 (up_to 56 (take b (bits_of m)))
       → f ≡ a_begin_of h i (length m) b o → f ≡ cut_frame h i m 0
-  begin_cut er eb eo ef = rw (ef, eo, eb, er)
+  begin_cut {r = r} {b = b} er eb eo ef =
+      let s : b ≡ min (8 * length m) r = omega arith in
+      let d : take b (bits_of m) ≡ take r (bits_of m) = fewer (bits_of m) r (eb ∙ ap (min r) (sym (length-bits_of m))) in
+      rw (ef, eo, d, s, er)
 
-  pub continue_cut : (k : ℕ) {r : ℕ} {p : IdentityParts} {o : List ℕ} {f : ArqFrame} → r ≡ room i → p ≡ parts_of i
-      → o ≡ octets 10 (up_to 80 (up_to 79 (drop (r + 79 * k) (bits_of m)))) → f ≡ a_continue_of h p.identity_type k o → f ≡ cut_frame h i m (suc k)
-  continue_cut k er ep eo ef = rw (ef, eo, ep, er)
+  pub continue_cut : (k : ℕ) {r b : ℕ} {p : IdentityParts} {o : List ℕ} {f : ArqFrame} → r ≡ room i → p ≡ parts_of i → b ≡ min 79 (8 * length m - (r + 79 * k))
+      → o ≡ octets 10 (up_to 80 (take b (drop (r + 79 * k) (bits_of m)))) → f ≡ a_continue_of h p.identity_type k o → f ≡ cut_frame h i m (suc k)
+  continue_cut k {r = r} {b = b} er ep eb eo ef =
+      let s : ℕ = r + 79 * k in
+      let l : List Bool = drop s (bits_of m) in
+      let e : 8 * length m - s ≡ length l = sym (length-drop s (bits_of m) ∙ ap (λ x. x - s) (length-bits_of m)) in
+      let d : up_to 80 (take b l) ≡ up_to 80 (up_to 79 l) = ap (up_to 80) (fewer l 79 (eb ∙ ap (min 79) e)) ∙ filled_once 80 79 l in
+      rw (ef, eo, d, ep, er)
 
   -- ---- the checks
 
@@ -70,41 +63,36 @@ module _ (h : ArqHeader) (i : MobileIdentity) (m : List ℕ) where
   pub cut-checked : {A : Type 0} (o : Outcome A) → cut_checked h i m o ≡ checked (cut_checked h i m (gives tt)) o
   cut-checked o = simp (← refuse_checked)
 
-  module _ {v : Verdict} (e : verdict_of v ≡ cut_checked h i m (gives tt)) where
-    pub cut_refused : {A : Type 0} (o : Outcome A) {x : SpachError} → v ≡ Refused x → refuses (number_of x) ≡ cut_checked h i m o
-    cut_refused o ev = verdict_refused o (cut-checked o) e ev
+  module _ {s : Outcome Unit} (e : s ≡ cut_checked h i m good) where
+    pub cut_refused : {A : Type 0} (o : Outcome A) {n : ℕ} → refuses n ≡ s → refuses n ≡ cut_checked h i m o
+    cut_refused o es = checks_refuse o (cut-checked o) (es ∙ e)
 
-    pub cut_passed : {A : Type 0} (o : Outcome A) → v ≡ Accepted → o ≡ cut_checked h i m o
-    cut_passed o ev = verdict_passed o (cut-checked o) e ev
+    pub cut_passed : {A : Type 0} (o : Outcome A) → good ≡ s → o ≡ cut_checked h i m o
+    cut_passed o es = checks_pass o (cut-checked o) (es ∙ e)
 
-    pub cut_short : v ≡ Accepted → length m ≤ 255
-    cut_short ev =
-        let p = passed (ltb 255 (length m)) 1 _ (sym e ∙ ap verdict_of ev) in
-        ltb-false 255 (length m) p.0
+  pub count_refused : {n : ℕ} → refuses n ≡ cut_checked h i m good → refuses n ≡ count_of h i m
+  unfolding count_of
+  count_refused e = cut_refused e (gives (1 + continues i (length m))) refl
 
-    pub count_refused : {x : SpachError} → v ≡ Refused x → refuses (number_of x) ≡ count_of h i m
-    unfolding count_of
-    count_refused ev = cut_refused (gives (1 + continues i (length m))) ev
+  pub count_given : {n : ℕ} → n ≡ 1 + continues i (length m) → good ≡ cut_checked h i m good → gives n ≡ count_of h i m
+  unfolding count_of
+  count_given en e = ap gives en ∙ cut_passed e (gives (1 + continues i (length m))) refl
 
-    pub count_given : {n : ℕ} → n ≡ 1 + continues i (length m) → v ≡ Accepted → gives n ≡ count_of h i m
-    unfolding count_of
-    count_given en ev = ap gives en ∙ cut_passed (gives (1 + continues i (length m))) ev
+  module _ (k : ℕ) where
+    pub frame_refused : {n : ℕ} → refuses n ≡ cut_checked h i m good → refuses n ≡ frame_of h i m k
+    unfolding frame_of
+    frame_refused e = cut_refused e (within k (1 + continues i (length m))) refl
 
-    module _ (k : ℕ) where
-      pub frame_refused : {x : SpachError} {r : Outcome Unit × ArqFrame} → v ≡ Refused x → r ≡ answered blank_frame (refuses (number_of x)) → r ≡ answered blank_frame (frame_of h i m k)
+    module _ {n : ℕ} (en : n ≡ 1 + continues i (length m)) (e : good ≡ cut_checked h i m good) where
+      given : within k n ≡ frame_of h i m k
       unfolding frame_of
-      frame_refused ev er = er ∙ ap (answered blank_frame) (cut_refused (within k (1 + continues i (length m))) ev)
+      given = ap (within k) en ∙ cut_passed e (within k (1 + continues i (length m))) refl
 
-      module _ {n : ℕ} (en : n ≡ 1 + continues i (length m)) (ev : v ≡ Accepted) where
-        given : within k n ≡ frame_of h i m k
-        unfolding frame_of
-        given = ap (within k) en ∙ cut_passed (within k (1 + continues i (length m))) ev
+      pub frame_past : n ≤ k → refuses 12 ≡ frame_of h i m k
+      frame_past hk = rw (le-ltb k n hk) at given
 
-        pub frame_past : {r : Outcome Unit × ArqFrame} → n ≤ k → r ≡ answered blank_frame (refuses 12) → r ≡ answered blank_frame (frame_of h i m k)
-        frame_past hk er = er ∙ ap (answered blank_frame) (rw (le-ltb k n hk) at given)
-
-        pub frame_cut : {f : ArqFrame} → k < n → f ≡ cut_frame h i m k → (gives tt, f) ≡ answered blank_frame (frame_of h i m k)
-        frame_cut hk ef = ap (λ x. (gives tt, x)) ef ∙ ap (answered blank_frame) (rw (lt-ltb k n hk) at given)
+      pub frame_cut : {f : ArqFrame} → k < n → f ≡ cut_frame h i m k → gives f ≡ frame_of h i m k
+      frame_cut hk ef = ap gives ef ∙ (rw (lt-ltb k n hk) at given)
 
 -- a message that has a frame has a count of them
 pub counted : (h : ArqHeader) (i : MobileIdentity) (m : List ℕ) (k : ℕ) {f : ArqFrame} → frame_of h i m k ≡ gives f → count_of h i m ≡ gives (1 + continues i (length m))

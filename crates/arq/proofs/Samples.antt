@@ -1,7 +1,6 @@
 -- 01, "Sample orders": the starred lines, and frames of the Rust that pin the layout bit by bit, settled by one test.
 -- The frames are the Rust's answers to the same messages (`oracle`, FRAME and ENCODE): every channel, flag and mode, and the
 -- top and low bits of each identity, are told apart in them. Assumes nothing.
-use mathlib.Core.Path.{◌≡◌, refl}
 use mathlib.Core.Bool.{Bool, true, false, ◌&&◌}
 use mathlib.Core.List.{List, [], ◌∷◌}
 use Prim.Native.Nat.{ℕ, ◌+◌, ◌-◌, ◌^◌}
@@ -23,7 +22,7 @@ use Rattle.arq.specs.declared.FrameKind.TheVariants.{Begin, Continue}
 use Rattle.arq.specs.declared.ArqHeader.{ArqHeader}
 use Rattle.arq.specs.declared.ArqFrame.{ArqFrame}
 use Rattle.arq.specs.declared.PackedFrame.{PackedFrame}
-use Rattle.arq.specs.Frame.{mode_of, kind_of, packed, begin_frame, continue_frame, a_begin, a_continue, blank_packed, blank_frame}
+use Rattle.arq.specs.Frame.{mode_of, kind_of, packed, begin_frame, continue_frame, a_begin, a_continue}
 use Rattle.arq.specs.Encode.{encode_of}
 use Rattle.arq.specs.Decode.{decode_of}
 use Rattle.arq.specs.Cut.{count_of, frame_of}
@@ -342,8 +341,3 @@ apart =
 settled_apart : T (all apart)
 unfolding apart bits value bits_of octets field layout up_to any_set in_range encodable header_a_at address_at packed begin_frame continue_frame encode_of decode_of count_of frame_of
 settled_apart = tt
-
--- what stands beside a refusal: 14 zeros; a Begin with nothing in it
-pub blank : (blank_packed.octets ≡ replicate 14 0)
-    × (blank_frame ≡ any_frame Begin (header Arch false false false false 0 false Contention) (Tmsi20 0) 0 0 (replicate 7 0) 0 0 (replicate 10 0))
-blank = (refl, refl)

@@ -2,10 +2,10 @@
 use mathlib.Core.Path.{◌≡◌, refl, sym, ap, ◌∙◌}
 use mathlib.Core.Bool.{Bool, true, false}
 use mathlib.Core.List.{List, [], ◌∷◌, ◌++◌, append-nil}
-use Prim.Native.Nat.{ℕ, zero, suc, ◌+◌, ◌*◌, ◌%◌, ◌^◌, ◌≤◌, ◌<◌}
-use native.Mathlib.Nat.{mod-eq_of_lt}
+use Prim.Native.Nat.{ℕ, zero, suc, ◌+◌, ◌*◌, ◌%◌, ◌^◌, ◌≤◌}
 use native.Mathlib.Omega.{arith}
-use lib.ListN.{length, replicate, length-append, length-take, replicate-append-replicate}
+use lib.ListN.{length, replicate, take, length-append, length-take, replicate-append-replicate}
+use Rattle.std.specs.Int.{from_bool}
 use Rattle.field.specs.Bits.{bit, bits, value, bits_of, octets, put, splice}
 use Rattle.field.specs.Layout.{layout, up_to, zeros}
 use Rattle.field.proofs.Layouts.{total, length-layout, layout-append, value-layout, put-run}
@@ -21,9 +21,11 @@ use Rattle.spach.specs.declared.HeaderFlags.{HeaderFlags}
 use Rattle.spach.specs.Header.{usage_of, header_a, header_b, address}
 use Rattle.arq.specs.declared.ResponseMode.{ResponseMode}
 use Rattle.arq.specs.declared.ResponseMode.TheVariants.{Contention, Reservation}
+use Rattle.arq.specs.declared.FrameKind.{FrameKind}
+use Rattle.arq.specs.declared.FrameKind.TheVariants.{Begin, Continue}
 use Rattle.arq.specs.declared.ArqHeader.{ArqHeader}
 use Rattle.arq.specs.declared.ArqFrame.{ArqFrame}
-use Rattle.arq.specs.Frame.{mode_of, rest_of, begin, continue, room, begin_data_lem, continue_data_lem, packed, begin_frame, continue_frame}
+use Rattle.arq.specs.Frame.{mode_of, kind_of, rest_of, begin, continue, room, begin_data_lem, continue_data_lem, packed, begin_frame, continue_frame}
 
 -- a layout written as the number that it is
 pub put-layout : (o : ℕ) (fs : List (ℕ × ℕ)) (bs : List Bool) {v : ℕ} → v ≡ value (layout fs) → put o (total fs) v bs ≡ splice o (layout fs) bs
@@ -85,15 +87,15 @@ module _ (f : ArqFrame) where
   a = header_a f.header.channel f.header.flags
 
   -- header A, header B, address, rest, data
-  pub begin-written : f.begin_bits ≤ room f.identity → {k : IdentityParts} {r : List ℕ} {p q s t : List Bool} → k ≡ parts_of f.identity
+  pub begin-written : f.begin_bits ≤ room f.identity → {k : IdentityParts} {c n : ℕ} {r : List ℕ} {p q s t : List Bool} → k ≡ parts_of f.identity → c ≡ f.message_octets → n ≡ f.begin_bits
       → p ≡ splice 0 (layout a) (bits_of (replicate 14 0))
       → q ≡ splice 7 (layout (header_b 5 k.identity_type f.header.flags)) p
       → s ≡ splice 14 (layout (address f.identity)) q
-      → t ≡ splice (15 + k.width) (layout (rest_of f.header ++ (8, f.message_octets) ∷ [])) s
-      → r ≡ octets 14 (splice (34 + k.width) (begin_data_lem f) t)
+      → t ≡ splice (15 + k.width) (layout (rest_of f.header ++ (8, c) ∷ [])) s
+      → r ≡ octets 14 (splice (34 + k.width) (take n (bits_of f.begin_data)) t)
       → r ≡ (begin_frame f).octets
   unfolding begin_frame packed
-  begin-written fits {p = p} {q = q} {s = s} {t = t} ek ep eq es et er =
+  begin-written fits {k = k} {p = p} {q = q} {s = s} {t = t} ek ec en ep eq es et er =
       let h = f.header in
       let i = f.identity in
       let b = header_b 5 (type_of i) h.flags in
@@ -102,29 +104,30 @@ module _ (f : ArqFrame) where
       let e1 = ep ∙ ap (splice 0 (layout a)) (blank_bits 14) in
       let e2 = eq ∙ ap (λ (x : IdentityParts). splice 7 (layout (header_b 5 x.identity_type h.flags)) p) ek ∙ part a b 7 refl (omega arith) e1 in
       let e3 = es ∙ part (a ++ b) (address i) 14 refl (omega arith) e2 in
-      let e4 = et ∙ ap (λ (x : IdentityParts). splice (15 + x.width) (layout (rest_of h ++ (8, f.message_octets) ∷ [])) s) ek ∙ part (a ++ b ++ address i) (rest_of h ++ (8, f.message_octets) ∷ []) (15 + width_of (type_of i)) (omega arith) (omega arith) e3 in
-      er ∙ ap (λ (x : IdentityParts). octets 14 (splice (34 + x.width) (begin_data_lem f) t)) ek ∙ ap (octets 14) (whole (begin h i f.message_octets) (begin_data_lem f) (34 + width_of (type_of i)) (omega arith) (omega arith) e4)
+      let e4 = et ∙ ap (λ (x : ℕ). splice (15 + k.width) (layout (rest_of h ++ (8, x) ∷ [])) s) ec ∙ ap (λ (x : IdentityParts). splice (15 + x.width) (layout (rest_of h ++ (8, f.message_octets) ∷ [])) s) ek ∙ part (a ++ b ++ address i) (rest_of h ++ (8, f.message_octets) ∷ []) (15 + width_of (type_of i)) (omega arith) (omega arith) e3 in
+      er ∙ ap (λ (x : ℕ). octets 14 (splice (34 + k.width) (take x (bits_of f.begin_data)) t)) en
+      ∙ ap (λ (x : IdentityParts). octets 14 (splice (34 + x.width) (begin_data_lem f) t)) ek ∙ ap (octets 14) (whole (begin h i f.message_octets) (begin_data_lem f) (34 + width_of (type_of i)) (omega arith) (omega arith) e4)
 
   -- header A, header B, rest, data
-  pub continue-written : {r : List ℕ} {p q s : List Bool}
+  pub continue-written : {n : ℕ} {r : List ℕ} {p q s : List Bool} → n ≡ f.frame_number
       → p ≡ splice 0 (layout a) (bits_of (replicate 14 0))
       → q ≡ splice 7 (layout (header_b 6 f.identity_type f.header.flags)) p
-      → s ≡ splice 14 (layout (rest_of f.header ++ (5, f.frame_number) ∷ [])) q
+      → s ≡ splice 14 (layout (rest_of f.header ++ (5, n) ∷ [])) q
       → r ≡ octets 14 (splice 30 (continue_data_lem f) s)
       → r ≡ (continue_frame f).octets
   unfolding continue_frame packed
-  continue-written ep eq es er =
+  continue-written {q = q} en ep eq es er =
       let h = f.header in
       let b = header_b 6 f.identity_type h.flags in
       let l = length-take 79 (bits_of f.continue_data) in
       let e1 = ep ∙ ap (splice 0 (layout a)) (blank_bits 14) in
       let e2 = eq ∙ part a b 7 refl (omega arith) e1 in
-      let e3 = es ∙ part (a ++ b) (rest_of h ++ (5, f.frame_number) ∷ []) 14 refl (omega arith) e2 in
+      let e3 = es ∙ ap (λ (x : ℕ). splice 14 (layout (rest_of h ++ (5, x) ∷ [])) q) en ∙ part (a ++ b) (rest_of h ++ (5, f.frame_number) ∷ []) 14 refl (omega arith) e2 in
       er ∙ ap (octets 14) (whole (continue h f.identity_type f.frame_number) (continue_data_lem f) 30 refl (omega arith) e3)
 
 -- ---- the numbers of the parts
 
-bit_small : (b : Bool) → bit b % 2 ^ 1 ≡ bit b
+bit_small : (b : Bool) → bit b % 2 ^ 1 ≡ from_bool b
 bit_small true = refl
 bit_small false = refl
 
@@ -138,17 +141,21 @@ mode_small Contention = refl
 mode_small Reservation = refl
 
 pub header_a_number : (c : Channel) (f : HeaderFlags) {u p b m : ℕ}
-    → u ≡ usage_of c → p ≡ bit f.pch_continuation → b ≡ bit f.bcch_change → m ≡ bit f.paging_frame_modifier
+    → u ≡ usage_of c → p ≡ from_bool f.pch_continuation → b ≡ from_bool f.bcch_change → m ≡ from_bool f.paging_frame_modifier
     → (((u * 2 + p) * 2 + b) * 2 + m) * 2 ≡ value (layout (header_a c f))
 header_a_number c f eu ep eb em =
     omega (arith, value-layout (header_a c f), usage_small c, bit_small f.pch_continuation, bit_small f.bcch_change, bit_small f.paging_frame_modifier)
 
-pub header_b_number : (k t : ℕ) (f : HeaderFlags) {r : ℕ} → k < 8 → r ≡ bit f.reservation_response
-    → ((k * 4 + t % 4) * 2) * 2 + r ≡ value (layout (header_b k t f))
-header_b_number k t f h er =
-    omega (arith, value-layout (header_b k t f), mod-eq_of_lt {n = k} {m = 2 ^ 3} h, bit_small f.reservation_response)
+kind_small : (k : FrameKind) → kind_of k % 2 ^ 3 ≡ kind_of k
+kind_small Begin = refl
+kind_small Continue = refl
 
-pub rest_number : (h : ArqHeader) {p m : ℕ} → p ≡ bit h.polling → m ≡ mode_of h.response_mode
-    → ((h.partial_echo % 128 * 4) * 2 + p) * 2 + m ≡ value (layout (rest_of h))
-rest_number h ep em =
+pub header_b_number : (k : FrameKind) (t : ℕ) (f : HeaderFlags) {n u r : ℕ} → n ≡ kind_of k → u ≡ t % 4 → r ≡ from_bool f.reservation_response
+    → ((n * 4 + u) * 2) * 2 + r ≡ value (layout (header_b (kind_of k) t f))
+header_b_number k t f en eu er =
+    omega (arith, value-layout (header_b (kind_of k) t f), kind_small k, bit_small f.reservation_response)
+
+pub rest_number : (h : ArqHeader) {e p m : ℕ} → e ≡ h.partial_echo % 128 → p ≡ from_bool h.polling → m ≡ mode_of h.response_mode
+    → ((e * 4) * 2 + p) * 2 + m ≡ value (layout (rest_of h))
+rest_number h ee ep em =
     omega (arith, value-layout (rest_of h), bit_small h.polling, mode_small h.response_mode)

@@ -5,11 +5,9 @@ use Rattle.field.specs.Bits.{bits_of}
 use Rattle.field.specs.Layout.{up_to}
 use Rattle.rach.specs.Identity.{type_of, encodable}
 use Rattle.rach.specs.declared.MobileIdentity.{MobileIdentity}
-use Rattle.spach.specs.Refusal.{Outcome, gives, refuses, refuse, number_of}
+use Rattle.spach.specs.Refusal.{Outcome, gives, refuse}
 use Rattle.arq.specs.declared.ArqHeader.{ArqHeader}
 use Rattle.arq.specs.declared.ArqFrame.{ArqFrame}
-use Rattle.arq.specs.declared.CountAnswer.{CountAnswer}
-use Rattle.arq.specs.declared.CountAnswer.TheVariants.{Frames, Refused}
 use Rattle.arq.specs.Frame.{continue_data_bits, room, a_begin, a_continue}
 use Rattle.arq.specs.Encode.{header_checked}
 
@@ -36,8 +34,3 @@ cut_frame h i m (suc k) = a_continue h (type_of i) k (up_to continue_data_bits (
 -- frame k of a message, k from 0
 unfoldable pub frame_of : ArqHeader → MobileIdentity → List ℕ → ℕ → Outcome ArqFrame
 frame_of h i m k = cut_checked h i m (refuse (not (ltb k (1 + continues i (length m)))) 12 (gives (cut_frame h i m k)))
-
--- a count's answer by number
-abbrev pub count_answer : CountAnswer → Outcome ℕ
-count_answer (Frames n) = gives n
-count_answer (Refused e) = refuses (number_of e)

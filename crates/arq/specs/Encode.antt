@@ -3,14 +3,13 @@
 use Rattle.std.specs.Prelude.{not, ◌*◌, eqb, ltb, drop}
 use Rattle.field.specs.Layout.{any_set}
 use Rattle.rach.specs.Identity.{encodable}
-use Rattle.spach.specs.Refusal.{Outcome, gives, refuse, verdict_of}
+use Rattle.spach.specs.Refusal.{Outcome, gives, refuse}
 use Rattle.spach.specs.Header.{usage_of}
 use Rattle.arq.specs.declared.FrameKind.{FrameKind}
 use Rattle.arq.specs.declared.FrameKind.TheVariants.{Begin, Continue}
 use Rattle.arq.specs.declared.ArqHeader.{ArqHeader}
 use Rattle.arq.specs.declared.ArqFrame.{ArqFrame}
 use Rattle.arq.specs.declared.PackedFrame.{PackedFrame}
-use Rattle.arq.specs.declared.Encoded.{Encoded}
 use Rattle.arq.specs.Frame.{room, begin_data_lem, begin_frame, continue_frame}
 
 -- Pch 3; echo over 127 11; else what follows
@@ -40,7 +39,3 @@ encode_of f =
     (by_kind f.kind
     (begin_checked f (gives (begin_frame f)))
     (continue_checked f (gives (continue_frame f))))
-
--- the answer: the outcome, and the packed frame or, beside a refusal, the blank one
-abbrev pub encoded_answer : Encoded → Outcome Unit × PackedFrame
-encoded_answer r = (verdict_of r.verdict, r.frame)

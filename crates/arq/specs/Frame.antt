@@ -8,7 +8,6 @@ use Rattle.rach.specs.Identity.{type_of, width_of}
 use Rattle.rach.specs.declared.MobileIdentity.{MobileIdentity}
 use Rattle.rach.specs.declared.MobileIdentity.TheVariants.{Tmsi20}
 use Rattle.spach.specs.declared.Channel.TheVariants.{Arch}
-use Rattle.spach.specs.Refusal.{Outcome, verdict_of}
 use Rattle.spach.specs.Header.{header_a, header_b, address}
 use Rattle.arq.specs.declared.ResponseMode.{ResponseMode}
 use Rattle.arq.specs.declared.ResponseMode.TheVariants.{Contention, Reservation}
@@ -16,7 +15,6 @@ use Rattle.arq.specs.declared.FrameKind.{FrameKind}
 use Rattle.arq.specs.declared.FrameKind.TheVariants.{Begin, Continue}
 use Rattle.arq.specs.declared.ArqHeader.{ArqHeader}
 use Rattle.arq.specs.declared.ArqFrame.{ArqFrame}
-use Rattle.arq.specs.declared.FrameAnswer.{FrameAnswer}
 use Rattle.arq.specs.declared.PackedFrame.{PackedFrame}
 
 -- response mode: 0 Contention, 1 Reservation
@@ -122,11 +120,7 @@ a_begin h i n bits data_bits = a_begin_of h i n bits (octets 7 (up_to 56 data_bi
 abbrev pub a_continue : ArqHeader → ℕ → ℕ → List Bool → ArqFrame
 a_continue h t k data_bits = a_continue_of h t k (octets 10 (up_to 80 data_bits))
 
--- the blank packed frame, which stands beside encode's refusals
-abbrev pub blank_packed : PackedFrame
-blank_packed = record { octets = replicate 14 0 }
-
--- the blank frame's header: Arch, Contention, and every flag and number zero
+-- a blank header: Arch, Contention, and every flag and number zero
 abbrev pub blank_header : ArqHeader
 blank_header = record {
   channel = Arch;
@@ -135,11 +129,3 @@ blank_header = record {
   polling = false;
   response_mode = Contention;
 }
-
--- the blank frame: a Begin for Tmsi20 of 0 with nothing in it
-abbrev pub blank_frame : ArqFrame
-blank_frame = a_begin_of blank_header (Tmsi20 0) 0 0 (replicate 7 0)
-
--- an answer of decode or of the cut: the outcome, and the frame or, beside a refusal, the blank one
-abbrev pub frame_answer : FrameAnswer → Outcome Unit × ArqFrame
-frame_answer r = (verdict_of r.verdict, r.frame)

@@ -9,12 +9,12 @@ pub mod read;
 pub mod write;
 
 ghost use Rattle.std.specs.Prelude.{◌≡◌};
-ghost use Rattle.spach.specs.Answered.{answered};
-ghost use Rattle.arq.specs.Frame.{blank_packed};
-ghost use Rattle.arq.specs.Encode.{encode_of, encoded_answer};
+ghost use Rattle.spach.specs.Refusal.{number_of, by_number};
+ghost use Rattle.arq.specs.Frame.{kind_of};
+ghost use Rattle.arq.specs.Encode.{encode_of};
 
 use rach::MobileIdentity;
-use spach::{Channel, HeaderFlags, SpachError, Verdict};
+use spach::{Channel, HeaderFlags, SpachError};
 
 const BEGIN: u64 = 5;
 
@@ -24,13 +24,13 @@ const INFORMATION_BITS: usize = 109;
 
 pub const CONTINUE_DATA_BITS: usize = 79;
 
-#[derive(Clone, Copy)]
+#[derive(Clone, Copy, Debug, PartialEq, Eq)]
 pub enum ResponseMode {
     Contention,
     Reservation,
 }
 
-#[derive(Clone, Copy)]
+#[derive(Clone, Copy, Debug, PartialEq, Eq)]
 pub struct ArqHeader {
     pub channel: Channel,
     pub flags: HeaderFlags,
@@ -39,14 +39,26 @@ pub struct ArqHeader {
     pub response_mode: ResponseMode,
 }
 
-#[derive(Clone, Copy)]
+#[derive(Clone, Copy, Debug, PartialEq, Eq)]
 pub enum FrameKind {
     Begin,
     Continue,
 }
 
+impl FrameKind {
+    // Header B's kind.
+    pub fn number(self) -> u64
+        ensures { result ≡ kind_of self }
+    {
+        match self {
+            FrameKind::Begin => BEGIN,
+            FrameKind::Continue => CONTINUE,
+        }
+    }
+}
+
 // A frame of either kind. Only the fields of its kind are read.
-#[derive(Clone, Copy)]
+#[derive(Clone, Copy, Debug, PartialEq, Eq)]
 pub struct ArqFrame {
     pub kind: FrameKind,
     pub header: ArqHeader,
@@ -60,51 +72,21 @@ pub struct ArqFrame {
 }
 
 // 109 bits, first bit at the top of the first octet; the last three bits are padding.
-#[derive(Clone, Copy)]
+#[derive(Clone, Copy, Debug, PartialEq, Eq)]
 pub struct PackedFrame {
     pub octets: [u8; 14],
 }
 
-// What decode and the cut answer: beside a refusal stands the blank frame.
-#[derive(Clone, Copy)]
-pub struct FrameAnswer {
-    pub verdict: Verdict,
-    pub frame: ArqFrame,
-}
-
-#[derive(Clone, Copy)]
-pub struct Encoded {
-    pub verdict: Verdict,
-    pub frame: PackedFrame,
-}
-
-// How many frames a message needs, or a refusal.
-#[derive(Clone, Copy)]
-pub enum CountAnswer {
-    Frames(usize),
-    Refused(SpachError),
-}
-
 impl ArqFrame {
-    // The packed frame, or a refusal and a blank one.
-    pub fn encode(self) -> Encoded
-        ensures { encoded_answer result ≡ answered blank_packed (encode_of self) }
+    // The packed frame, or a refusal.
+    pub fn encode(self) -> Result<PackedFrame, SpachError>
+        ensures { by_number number_of result ≡ encode_of self }
     {
-        let verdict = check::check_encode(self);
-        if let Verdict::Refused(error) = verdict {
-            return Encoded {
-                verdict: Verdict::Refused(error),
-                frame: PackedFrame { octets: [0u8; 14] },
-            };
-        }
-        let kind = self.kind;
-        let octets = match kind {
+        check::check_encode(self)?;
+        let octets = match self.kind {
             FrameKind::Begin => write::begin(self),
             FrameKind::Continue => write::continue_frame(self),
         };
-        Encoded {
-            verdict: Verdict::Accepted,
-            frame: PackedFrame { octets: octets },
-        }
+        Ok(PackedFrame { octets })
     }
 }

@@ -2,7 +2,6 @@
 #![tactic(auto)]
 
 fn main(rt: HostRuntime) {
-    let mut input = rt.stdin();
-    let mut output = rt.stdout();
-    listing::show::show(&mut input, &mut output, u64::MAX);
+    // The listing says itself where it could not be read on; whoever takes it misses what could not be written.
+    let _ = listing::show::show(&mut rt.stdin(), &mut rt.stdout(), u64::MAX);
 }

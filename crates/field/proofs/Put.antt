@@ -1,72 +1,73 @@
 -- Fields put into bits: one after another, into an octet, into a part. And what a run of octets with a field put into it is as a number.
 -- Assumes nothing.
-use mathlib.Core.Path.{◌≡◌, sym, ap, ap₂, ◌∙◌}
+use mathlib.Core.Path.{◌≡◌, refl, sym, ap, ap₂, ◌∙◌}
 use mathlib.Core.Bool.{Bool}
 use mathlib.Core.List.{List, [], ◌∷◌, ◌++◌, append-nil, append_assoc}
 use Prim.Native.Nat.{min, ℕ, zero, suc, ◌+◌, ◌-◌, ◌*◌, ◌/◌, ◌%◌, ◌^◌, ◌≤◌, ◌<◌}
-use native.Mathlib.Nat.{zero-add, zero-min, min-zero, suc-min-suc, add-zero, add_assoc, mod-eq_of_lt, mod-lt, lt_of_le_of_lt}
+use native.Mathlib.Nat.{add-suc, pow-suc, div-one, zero-add, zero-min, min-zero, suc-min-suc, add-zero, add_assoc, mod-eq_of_lt, mod-lt, lt_of_le_of_lt}
 use native.Mathlib.Omega.{arith}
 use lib.Arith.{digits_lt}
 use lib.Pow.{pow_pos, pow-add, shr-shr, shr_lt, shl_exact, high, low, split}
 use lib.Bits.{bit_and, and_mask}
-use lib.ListN.{length, take, drop, set, length-append, length-take, length-drop, take-append-drop}
-use lib.Seq.{take-nil, take_at, drop-append-add, drop-append-le, drop-drop, set_split, take-add, take-take}
+use lib.ListN.{length, take, drop, length-append, length-take, length-drop, take-append-drop}
+use lib.Seq.{take-nil, take-length, take_at, drop-append-add, drop-append-le, drop-drop, take-add, take-take}
+use Rattle.std.specs.Int.{byte_at, bytes_high_first}
+use borrow.Rule.Slice.PartMut.{put_mid}
 use Rattle.field.specs.Bits.{bits, value, bits_of, field, put, splice}
-use Rattle.field.specs.Spans.{window}
 use Rattle.field.proofs.Laws.{length-bits, length-field, length-put, value_lt, value-append, value-bits, bits-append, bits-value, bits-mod, bits_of-append, bits_of-take, bits_of-drop, length-bits_of}
-use Rattle.field.proofs.Window.{Holds, window-bits, one_shl, length-window}
+use Rattle.field.proofs.Window.{window, Holds, window-bits, one_shl, length-window}
 
--- nothing put
-pub put-zero : (o v : ℕ) (bs : List Bool) → put o 0 v bs ≡ bs
-unfolding put bits
-put-zero o v bs = rw (append-nil (take o bs), add-zero o) (take-append-drop o bs)
+-- n octets count up to 2 ^ (8 * n)
+octets_pow : (n : ℕ) → 256 ^ n ≡ 2 ^ (8 * n)
+octets_pow zero = refl
+octets_pow (suc n) =
+    let e : 8 * suc n ≡ 8 * n + 8 = omega arith in
+    pow-suc 256 n ∙ ap (λ (m : ℕ). m * 256) (octets_pow n) ∙ sym (pow-add 2 (8 * n) 8) ∙ ap (λ (m : ℕ). 2 ^ m) (sym e)
 
--- only the low bits of the number count
-pub put-mod : (o w v : ℕ) (bs : List Bool) → put o w (v % 2 ^ w) bs ≡ put o w v bs
+-- byte n of a number
+byte : (n x : ℕ) → byte_at n x ≡ x / 2 ^ (8 * n) % 2 ^ 8
+byte zero x = rw (div-one x)
+byte (suc n) x = ap (λ (m : ℕ). x / m % 2 ^ 8) (octets_pow (suc n))
+
+-- the low n octets of a number, the highest first, are its low bits
+pub be-bits : (n x : ℕ) → bits_of (bytes_high_first n x) ≡ bits (8 * n) x
+unfolding bits_of bits
+be-bits zero x = refl
+be-bits (suc n) x =
+    let e : 8 * suc n ≡ 8 + 8 * n = omega arith in
+    ap₂ (λ (a b : List Bool). a ++ b) (ap (bits 8) (byte n x) ∙ bits-mod 8 (x / 2 ^ (8 * n))) (be-bits n x)
+    ∙ sym (bits-append 8 (8 * n) x)
+    ∙ ap (λ (m : ℕ). bits m x) (sym e)
+
+-- the last n octets of more are the low n
+pub low_octets : (k n x : ℕ) → drop k (bytes_high_first (n + k) x) ≡ bytes_high_first n x
+low_octets zero n x = ap (λ (m : ℕ). bytes_high_first m x) (add-zero n)
+low_octets (suc k) n x = ap (λ (m : ℕ). drop (suc k) (bytes_high_first m x)) (add-suc n k) ∙ low_octets k n x
+
+length-bytes : (n x : ℕ) → length (bytes_high_first n x) ≡ n
+length-bytes zero x = refl
+length-bytes (suc n) x = ap suc (length-bytes n x)
+
+pub last_octets : (n x : ℕ) → n ≤ 8 → take (8 - (8 - n)) (drop (8 - n) (bytes_high_first 8 x)) ≡ bytes_high_first n x
+last_octets n x h =
+    let m : 8 ≡ n + (8 - n) = omega arith in
+    let t : 8 - (8 - n) ≡ length (bytes_high_first n x) = omega (arith, length-bytes n x) in
+    ap₂ take t (ap (λ (k : ℕ). drop (8 - n) (bytes_high_first k x)) m ∙ low_octets (8 - n) n x) ∙ take-length (bytes_high_first n x)
+
+-- n octets from octet f on
+pub length-mid : (s : List ℕ) (f n : ℕ) → f + n ≤ length s → length (take n (drop f s)) ≡ n
+length-mid s f n h = simp (length-take, length-drop) (omega arith)
+
+-- octets put in the place of n others, from octet f on
+pub mid-put : (s ys : List ℕ) (f n y : ℕ) → bits_of ys ≡ bits (8 * n) y → bits_of (put_mid f n s ys) ≡ put (8 * f) (8 * n) y (bits_of s)
 unfolding put
-put-mod o w v bs = rw (bits-mod w v)
-
--- the high part of a number, then its low part right after it
-pub put_next : (o j k v : ℕ) (bs : List Bool) → o + (j + k) ≤ length bs → put (o + j) k v (put o j (v / 2 ^ k) bs) ≡ put o (j + k) v bs
-unfolding put
-put_next o j k v bs h =
-    let p : List Bool = take o bs ++ bits j (v / 2 ^ k) in
-    let n : length p ≡ o + j = simp (length-append, length-take, length-bits) (omega arith) in
-    let t : take (o + j) (p ++ drop (o + j) bs) ≡ p = take_at p (drop (o + j) bs) (o + j) n in
-    let d : drop (o + j + k) (p ++ drop (o + j) bs) ≡ drop (o + j + k) bs =
-    ap (λ (m : ℕ). drop (m + k) (p ++ drop (o + j) bs)) (sym n) ∙ drop-append-add p (drop (o + j) bs) k ∙ drop-drop k (o + j) bs in
-    ap₂ (λ (a b : List Bool). (a ++ bits k v) ++ b) t d
-    ∙ ap₂ (λ (a b : List Bool). a ++ b)
-    (append_assoc (take o bs) (bits j (v / 2 ^ k)) (bits k v) ∙ ap (λ (l : List Bool). take o bs ++ l) (sym (bits-append j k v)))
-    (ap (λ (m : ℕ). drop m bs) (add_assoc o j k))
-
--- an octet stored
-pub bits_of-set : (s : List ℕ) (i v : ℕ) → i < length s → bits_of (set s i v) ≡ put (8 * i) 8 v (bits_of s)
-unfolding put bits_of
-bits_of-set s i v h =
-    let e : 8 * suc i ≡ 8 * i + 8 = omega arith in
-    ap bits_of (set_split s i v h)
-    ∙ bits_of-append (take i s) (v ∷ drop (suc i) s)
-    ∙ ap₂ (λ (a b : List Bool). a ++ (bits 8 v ++ b)) (sym (bits_of-take i s)) (sym (bits_of-drop (suc i) s) ∙ ap (λ (m : ℕ). drop m (bits_of s)) e)
-    ∙ sym (append_assoc (take (8 * i) (bits_of s)) (bits 8 v) (drop (8 * i + 8) (bits_of s)))
-
--- a turn of the loop that stores octets: the next one holds the next eight bits of x
-pub store_step : (s₀ s : List ℕ) (f n x k : ℕ) → k < n → f + n ≤ length s₀ → length s ≡ length s₀
-    → bits_of s ≡ put (8 * f) (8 * k) (x / 2 ^ (8 * (n - k))) (bits_of s₀)
-    → bits_of (set s (f + k) (bit_and (x / 2 ^ (8 * (n - 1 - k))) 255)) ≡ put (8 * f) (8 * (k + 1)) (x / 2 ^ (8 * (n - (k + 1)))) (bits_of s₀)
-store_step s₀ s f n x k kn fn e h =
-    let y : ℕ = x / 2 ^ (8 * (n - 1 - k)) in
-    let a : 8 * (n - 1 - k) + 8 ≡ 8 * (n - k) = omega arith in
-    let b : 8 * (f + k) ≡ 8 * f + 8 * k = omega arith in
-    let d : 8 * k + 8 ≡ 8 * (k + 1) = omega arith in
-    let g : 8 * (n - 1 - k) ≡ 8 * (n - (k + 1)) = omega arith in
-    let q : x / 2 ^ (8 * (n - k)) ≡ y / 2 ^ 8 = ap (λ (m : ℕ). x / 2 ^ m) (sym a) ∙ sym (shr-shr x (8 * (n - 1 - k)) 8) in
-    bits_of-set s (f + k) (bit_and y 255) (omega arith)
-    ∙ ap (λ (m : ℕ). put (8 * (f + k)) 8 m (bits_of s)) (and_mask y 8)
-    ∙ put-mod (8 * (f + k)) 8 y (bits_of s)
-    ∙ ap₂ (λ (m : ℕ) (z : List Bool). put m 8 y z) b (h ∙ ap (λ (m : ℕ). put (8 * f) (8 * k) m (bits_of s₀)) q)
-    ∙ put_next (8 * f) (8 * k) 8 y (bits_of s₀) (omega (arith, length-bits_of s₀))
-    ∙ ap₂ (λ (m i : ℕ). put (8 * f) m (x / 2 ^ i) (bits_of s₀)) d g
+mid-put s ys f n y e =
+    bits_of-append (take f s) (ys ++ drop n (drop f s))
+    ∙ ap₂ (λ (a b : List Bool). a ++ b) (sym (bits_of-take f s))
+    (bits_of-append ys (drop n (drop f s))
+    ∙ ap₂ (λ (a b : List Bool). a ++ b) e
+    (sym (bits_of-drop n (drop f s)) ∙ ap (drop (8 * n)) (sym (bits_of-drop f s)) ∙ drop-drop (8 * n) (8 * f) (bits_of s)))
+    ∙ sym (append_assoc (take (8 * f) (bits_of s)) (bits (8 * n) y) (drop (8 * f + 8 * n) (bits_of s)))
 
 -- the first n bits of some, and those after them, as numbers
 pub value-take : (n : ℕ) (bs : List Bool) → n ≤ length bs → value (take n bs) ≡ value bs / 2 ^ (length bs - n)
@@ -203,6 +204,16 @@ copy_step bs src d s k w hs hd =
     ap₂ (λ (a b : List Bool). (a ++ bits w (value (take w (drop (s + k) src)))) ++ b) t e
     ∙ ap (λ (l : List Bool). l ++ drop (d + length (take (k + w) (drop s src))) bs)
     (append_assoc (take d bs) r (bits w (value (take w (drop (s + k) src)))) ∙ ap (λ (l : List Bool). take d bs ++ l) f)
+
+-- so of octets
+pub copied : (old dst src new : List ℕ) (d o k w : ℕ) {v : ℕ}
+    → bits_of new ≡ put (d + k) w v (bits_of dst) → v ≡ field (o + k) w (bits_of src) → bits_of dst ≡ splice d (take k (drop o (bits_of src))) (bits_of old)
+    → o + (k + w) ≤ 8 * length src → d + (k + w) ≤ 8 * length old
+    → bits_of new ≡ splice d (take (k + w) (drop o (bits_of src))) (bits_of old)
+copied old dst src new d o k w en ev ed hs hd =
+    en
+    ∙ ap₂ (λ (x : ℕ) (bs : List Bool). put (d + k) w x bs) ev ed
+    ∙ copy_step (bits_of old) (bits_of src) d o k w (omega (arith, length-bits_of src)) (omega (arith, length-bits_of old))
 
 -- a run after what was written
 pub splice-append : (p z run : List Bool) (o : ℕ) → length p ≡ o → splice o run (p ++ z) ≡ (p ++ run) ++ drop (length run) z

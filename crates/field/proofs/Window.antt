@@ -1,18 +1,25 @@
 -- A run of octets as one number, and what shifts, masks and `|` do to such numbers. Assumes nothing.
-use mathlib.Core.Path.{◌≡◌, sym, ap, ap₂, ◌∙◌}
+use mathlib.Core.Path.{◌≡◌, refl, sym, ap, ap₂, ◌∙◌}
 use mathlib.Core.Bool.{Bool}
 use mathlib.Core.List.{List, [], ◌∷◌, ◌++◌, append-nil}
 use Prim.Native.Nat.{min, ℕ, suc, ◌+◌, ◌-◌, ◌*◌, ◌/◌, ◌%◌, ◌^◌, ◌≤◌, ◌<◌}
 use native.Mathlib.Nat.{one-mul, mod-eq_of_lt, lt_of_lt_of_le}
 use native.Mathlib.Omega.{arith}
-use lib.Pow.{pow-lt, pow_pos, pow_mono, shl_exact}
+use lib.Arith.{digits_lt}
+use lib.Pow.{pow-lt, pow-add, pow_pos, pow_mono, shl_exact}
 use lib.Bits.{bit_and, bit_or, or_shifted, and_mask}
 use lib.ListN.{length, take, drop, get_or, length-take, length-drop, take-append-drop}
-use lib.Seq.{drop-drop, take-add, take-suc, get_or-drop}
-use native.Mathlib.Numerals.{add-one}
-use Rattle.field.specs.Bits.{bits, value, bits_of, field}
-use Rattle.field.specs.Spans.{window, Placed}
-use Rattle.field.proofs.Laws.{bits_of-take, bits_of-drop, length-field, field-value, field-left, length-bits, value_lt, value-append, value-bits_lt, bits_of-append, length-bits_of}
+use lib.Seq.{drop-drop, take-suc, take-length, get_or-drop}
+use Rattle.std.specs.Prelude.{fold}
+use Rattle.std.specs.Int.{from_be_bytes}
+use mir.Syntax.{w64}
+use Rattle.field.specs.Bits.{Octets, bits, value, bits_of, field}
+use Rattle.field.specs.Spans.{Placed}
+use Rattle.field.proofs.Laws.{bits_of-take, bits_of-drop, length-field, field-value, field-left, length-bits, value-append, value-bits_lt, bits_of-append, length-bits_of}
+
+-- the number that the n octets from octet f on are, top octet first
+abbrev pub window : List ℕ → ℕ → ℕ → ℕ
+window s f n = value (bits_of (take n (drop f s)))
 
 -- `(acc << 8) | x`, in 64 bits
 pub shift_in : (acc x : ℕ) → acc < 2 ^ 56 → x < 2 ^ 8 → bit_or ((acc * 2 ^ 8) % 2 ^ 64) x ≡ acc * 2 ^ 8 + x
@@ -21,9 +28,6 @@ shift_in acc x h k = rw (shl_exact 56 8 64 h (omega arith)) (or_shifted acc 8 x 
 module _ (s : List ℕ) (f n : ℕ) where
   pub length-window : f + n ≤ length s → length (bits_of (take n (drop f s))) ≡ 8 * n
   length-window h = simp (length-bits_of, length-take, length-drop) (omega arith)
-
-  pub window_lt : f + n ≤ length s → window s f n < 2 ^ (8 * n)
-  window_lt h = rw (length-window h) at (value_lt (bits_of (take n (drop f s))))
 
   -- one octet more
   pub window-suc : f + n < length s → get_or s (f + n) 0 < 2 ^ 8 → window s f (suc n) ≡ window s f n * 2 ^ 8 + get_or s (f + n) 0
@@ -37,31 +41,39 @@ module _ (s : List ℕ) (f n : ℕ) where
       ∙ value-append (bits_of (take n (drop f s))) (bits 8 (get_or s (f + n) 0))
       ∙ ap₂ (λ (x y : ℕ). window s f n * 2 ^ x + y) (length-bits 8 (get_or s (f + n) 0)) (value-bits_lt 8 k)
 
--- a turn of the loop that reads octets: one more is shifted in
-pub number_step : (s : List ℕ) (f k acc x : ℕ) → f + k < length s → k < 8 → x ≡ get_or s (f + k) 0 → x < 2 ^ 8
-    → acc ≡ window s f k → bit_or ((acc * 2 ^ 8) % 2 ^ 64) x ≡ window s f (k + 1)
-number_step s f k acc x is k8 ex hx ea =
-    let b : acc < 2 ^ 56 = rw ea (lt_of_lt_of_le (window_lt s f k (omega arith)) (pow_mono {i = 8 * k} {j = 56} (omega arith))) in
-    shift_in acc x b hx
-    ∙ ap₂ (λ (p q : ℕ). p * 2 ^ 8 + q) ea ex
-    ∙ sym (window-suc s f k (omega arith) (rw (← ex) hx))
-    ∙ ap (window s f) (sym (add-one k))
+-- eight octets as one number
+pub be-value : (s : List ℕ) → length s ≡ 8 → Octets s → from_be_bytes w64 s ≡ value (bits_of s)
+unfolding bits_of value
+be-value s l o =
+    let none : window s 0 0 ≡ 0 = refl in
+    let all : window s 0 8 ≡ value (bits_of s) = ap (λ (x : List ℕ). value (bits_of x)) (ap (λ (n : ℕ). take n s) (sym l) ∙ take-length s) in
+    omega (
+      arith,
+      window-suc s 0 0 (omega arith) (o 0),
+      window-suc s 0 1 (omega arith) (o 1),
+      window-suc s 0 2 (omega arith) (o 2),
+      window-suc s 0 3 (omega arith) (o 3),
+      window-suc s 0 4 (omega arith) (o 4),
+      window-suc s 0 5 (omega arith) (o 5),
+      window-suc s 0 6 (omega arith) (o 6),
+      window-suc s 0 7 (omega arith) (o 7),
+    )
 
--- eight octets are four and four
-pub halves : (s : List ℕ) (f : ℕ) {a b : ℕ} → f + 8 ≤ length s → a ≡ window s f 4 → b ≡ window s (f + 4) 4
-    → bit_or ((a * 2 ^ 32) % 2 ^ 64) b ≡ window s f 8
-halves s f {a} {b} h ea eb =
-    let la : a < 2 ^ 32 = rw ea (window_lt s f 4 (omega arith)) in
-    let lb : b < 2 ^ 32 = rw eb (window_lt s (f + 4) 4 (omega arith)) in
-    let n : length (bits_of (take 4 (drop (f + 4) s))) ≡ 32 = length-window s (f + 4) 4 (omega arith) in
-    let t : take 8 (drop f s) ≡ take 4 (drop f s) ++ take 4 (drop (f + 4) s) =
-    take-add 4 4 (drop f s) ∙ ap (λ (l : List ℕ). take 4 (drop f s) ++ take 4 l) (drop-drop 4 f s) in
-    rw (shl_exact 32 32 64 la (omega arith)) (or_shifted a 32 b lb)
-    ∙ ap₂ (λ (p q : ℕ). p * 2 ^ 32 + q) ea eb
-    ∙ ap (λ (m : ℕ). window s f 4 * 2 ^ m + window s (f + 4) 4) (sym n)
-    ∙ sym (value-append (bits_of (take 4 (drop f s))) (bits_of (take 4 (drop (f + 4) s))))
-    ∙ ap value (sym (bits_of-append (take 4 (drop f s)) (take 4 (drop (f + 4) s))))
-    ∙ ap (λ (l : List ℕ). value (bits_of l)) (sym t)
+-- fewer octets, shifted in one after the other
+pub fold-value : (s : List ℕ) (k : ℕ) {a : ℕ} → Octets s → k + length s ≤ 8 → a < 2 ^ (8 * k)
+    → fold (λ (x y : ℕ). bit_or ((x * 2 ^ 8) % 2 ^ 64) y) a s ≡ a * 2 ^ (8 * length s) + value (bits_of s)
+unfolding bits_of value
+fold-value [] k {a} o l h = omega arith
+fold-value (x ∷ s) k {a} o l h =
+    let b : a < 2 ^ 56 = lt_of_lt_of_le h (pow_mono {i = 8 * k} {j = 56} (omega arith)) in
+    let m : 8 * suc k ≡ 8 * k + 8 = omega arith in
+    let n : 8 * suc (length s) ≡ 8 * length s + 8 = omega arith in
+    let next : a * 2 ^ 8 + x < 2 ^ (8 * suc k) = rw (m, pow-add 2 (8 * k) 8) (digits_lt h (o 0)) in
+    let v : value (bits 8 x ++ bits_of s) ≡ x * 2 ^ (8 * length s) + value (bits_of s) =
+    value-append (bits 8 x) (bits_of s) ∙ ap₂ (λ (y z : ℕ). y * 2 ^ z + value (bits_of s)) (value-bits_lt 8 (o 0)) (length-bits_of s) in
+    ap (λ (y : ℕ). fold (λ (y z : ℕ). bit_or ((y * 2 ^ 8) % 2 ^ 64) z) y s) (shift_in a x b (o 0))
+    ∙ fold-value s (suc k) (λ i. o (suc i)) (omega arith) next
+    ∙ rw (n, pow-add 2 (8 * length s) 8, v) (omega arith)
 
 -- `(1 << w) - 1`, in 64 bits
 pub one_shl : (w : ℕ) → w < 64 → (1 * 2 ^ w) % 2 ^ 64 ≡ 2 ^ w

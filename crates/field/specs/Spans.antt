@@ -1,7 +1,7 @@
 -- Octets as bits, and fields and runs of bits that lie inside octets: what functions over octets ask for and leave. Only contracts
 -- need this. Assumes nothing.
-use Rattle.std.specs.Prelude.{◌≡◌, Bool, List, ℕ, ◌+◌, ◌*◌, ◌≤◌, length, take, drop}
-use Rattle.field.specs.Bits.{value, bits_of, octets}
+use Rattle.std.specs.Prelude.{◌≡◌, Bool, List, ℕ, ◌+◌, ◌*◌, ◌≤◌, length}
+use Rattle.field.specs.Bits.{bits_of, octets}
 
 -- the octets xs are n, and their bits are bs
 pub record Packs (xs : List ℕ) (n : ℕ) (bs : List Bool) : Type 0 where
@@ -19,7 +19,3 @@ pub record Placed (xs : List ℕ) (o w : ℕ) : Type 0 where
 pub record Run (xs : List ℕ) (o n : ℕ) : Type 0 where
   pub inside : o + n ≤ 8 * length xs
   pub short : length xs ≤ 4096
-
--- the number that the n octets from octet f on are, top octet first
-abbrev pub window : List ℕ → ℕ → ℕ → ℕ
-window xs f n = value (bits_of (take n (drop f xs)))

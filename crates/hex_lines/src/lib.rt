@@ -1,50 +1,57 @@
 // Octets in lower-case hex, 32 to a line.
 #![tactic(auto)]
 
-ghost use Rattle.std.specs.Prelude.{◌≡◌, ◌++◌, ◌+◌, ◌*◌, ◌<◌, ◌≤◌, length, take};
-ghost use Rattle.hex_lines.specs.Hex.{digit_of, ends_line, octet_text, text_of};
+ghost use Rattle.std.specs.Prelude.{◌≡◌, ◌++◌, ◌+◌, ◌*◌, ◌≤◌, length};
+ghost use Rattle.arrayvec.specs.ArrayVec.{array_vec_len};
+ghost use Rattle.hex.specs.Hex.{encode_lower};
+ghost use Rattle.hex_lines.specs.Hex.{text_of};
 
-fn digit(d: u8) -> u8
-    requires { d < 16 }
-    ensures { result ≡ digit_of d }
+use arrayvec::ArrayVec;
+use std::io;
+use std::io::{Read, Write};
+
+// Appends each octet's two digits.
+pub fn put_digits<const N: usize>(text: &mut ArrayVec<u8, N>, octets: &[u8])
+    requires { array_vec_len text.old + 2 * length octets.now ≤ N }
+    ensures items { text.new.items ≡ text.old.items ++ encode_lower octets.now }
+    ensures len { array_vec_len text.new ≡ array_vec_len text.old + 2 * length octets.now }
 {
-    if d < 10 { 48 + d } else { 87 + d }
+    for octet in octets {
+        let mut digits = [0u8; 2];
+        hex::encode_to_slice([*octet], &mut digits).unwrap();
+        text.try_extend_from_slice(&digits).unwrap();
+    }
 }
 
-fn ends_line(n: usize, i: usize) -> bool
-    requires { i < n }
-    ensures { result ≡ ends_line n i }
+// Appends the octets' text.
+pub fn put_lines<const N: usize>(text: &mut ArrayVec<u8, N>, octets: &[u8])
+    requires { array_vec_len text.old + 3 * length octets.now ≤ N }
+    ensures { text.new.items ≡ text.old.items ++ text_of octets.now }
 {
-    if i + 1 == n {
-        return true;
+    for line in octets.chunks(32) {
+        put_digits(text, line);
+        text.push(b'\n');
     }
-    (i + 1) % 32 == 0
 }
 
-// An octet's text, at `to`; the place after it.
-fn put_octet(text: &mut [u8], to: usize, octet: u8, ends: bool) -> usize
-    requires { to + 3 ≤ length text.old }
-    ensures { (result ≤ to + 3) × (take result text.new ≡ take to text.old ++ octet_text octet ends) }
+// Runs the script that the source gives, and prints the answers in hex. `run` is lent the script and room for its
+// answers, and says how many it put there.
+pub fn replay<R: Read, W: Write, F: FnOnce(&[u8], &mut [u8]) -> usize>(
+    source: &mut R,
+    output: &mut W,
+    run: F,
+) -> io::Result<()>
+    requires callable { F.IsAlwaysCallable run }
+    requires inside { (script : _) (answers : _) (count : _) (after : _) → F.post run script answers count after → count ≤ length answers.now }
 {
-    text[to] = digit(octet / 16);
-    text[to + 1] = digit(octet % 16);
-    if ends {
-        text[to + 2] = 10;
-        return to + 3;
+    let mut room = [0u8; 65537];
+    let (script, _) = reading::fill(source, &mut room);
+    if script.len() > 65536 {
+        return output.write_all(b"too long\n");
     }
-    to + 2
-}
-
-// The text of the octets; how long it is.
-pub fn hex(octets: &[u8], text: &mut [u8]) -> usize
-    requires { 3 * length octets.now ≤ length text.old }
-    ensures { (result ≤ 3 * length octets.now) × (take result text.new ≡ text_of octets.now) }
-{
-    let mut to: usize = 0;
-    let mut i: usize = 0;
-    while i < octets.len() {
-        to = put_octet(text, to, octets[i], ends_line(octets.len(), i));
-        i += 1;
-    }
-    to
+    let mut answers = [0u8; 65536];
+    let count = run(script, &mut answers);
+    let mut text = ArrayVec::<u8, 196608>::new();
+    put_lines(&mut text, &answers[..count]);
+    output.write_all(&text)
 }

@@ -16,28 +16,26 @@ use Rattle.inactivity.specs.declared.StatusResult.{StatusResult}
 use Rattle.inactivity.specs.declared.StatusResult.TheVariants.{Sent, Failed}
 use Rattle.inactivity.specs.declared.State.{State}
 use Rattle.inactivity.specs.declared.State.TheVariants.{Idle, Waiting, SendingUnsolicited, FinalWait}
-use Rattle.inactivity.specs.declared.Turn.{Turn}
-use Rattle.inactivity.specs.declared.ArqInactivity.{ArqInactivity}
-use Rattle.inactivity.specs.Inactivity.{new_of, turn, token_of, owns_of, clocked, in_state, renewed, admitted, acts, is_idle, due, solicited_at, solicited_by, unsolicited_at, unsolicited_by, sent_from, reported, reset_of, observe_of, received_frame_of, advance_of, unsolicited_of, solicited_of}
+use Rattle.inactivity.specs.Inactivity.{Timer, new_of, token_of, owns_of, clocked, in_state, renewed, admitted, acts, is_idle, due, solicited_at, solicited_by, unsolicited_at, unsolicited_by, sent_from, reported, reset_of, observe_of, received_frame_of, advance_of, unsolicited_of, solicited_of}
 
 -- the timer at block b, in another state, with an unsolicited status pending or not, under the same token
-abbrev pub goes_to : ArqInactivity → State → ℕ → Bool → ArqInactivity
+abbrev pub goes_to : Timer → State → ℕ → Bool → Timer
 goes_to s k b pending = record { state = k; last_block = b; unsolicited_pending = pending; transaction = s.transaction; next_token = s.next_token }
 
 -- the timer at block b, idle, under the next token
-abbrev pub starts_anew : ArqInactivity → ℕ → ArqInactivity
+abbrev pub starts_anew : Timer → ℕ → Timer
 starts_anew s b = record { state = Idle; last_block = b; unsolicited_pending = false; transaction = record { 0 = s.next_token }; next_token = number_after s.next_token }
 
 -- an answer, and the timer beside it
-abbrev pub answers : {A : Type 0} → A → ArqInactivity → After A ArqInactivity
+abbrev pub answers : {A : Type 0} → A → Timer → After A Timer
 answers a s = record { outcome = gives a; state = s }
 
 -- a refusal, which leaves the timer
-abbrev pub refused_by : {A : Type 0} → ℕ → ArqInactivity → After A ArqInactivity
+abbrev pub refused_by : {A : Type 0} → ℕ → Timer → After A Timer
 refused_by n s = record { outcome = refuses n; state = s }
 
 -- 18 and 17 let a call at block b through
-pub record Admits (s : ArqInactivity) (b : ℕ) : Type 0 where
+pub record Admits (s : Timer) (b : ℕ) : Type 0 where
   pub tokens : fewer_than 4 s.next_token ≡ false
   pub later : s.last_block ≤ b
 
@@ -45,7 +43,7 @@ pub record Admits (s : ArqInactivity) (b : ℕ) : Type 0 where
 pub new_exactly : (first : ℕ) → new_of first ≡ record { state = Idle; last_block = 0; unsolicited_pending = false; transaction = record { 0 = first }; next_token = number_after first }
 new_exactly first = refl
 
-module _ (s : ArqInactivity) where
+module _ (s : Timer) where
   -- ---- token, owns, reset, observe, received_frame
 
   -- the present token is told, not the one that comes next
@@ -84,13 +82,13 @@ module _ (s : ArqInactivity) where
 
     -- ---- 18, then 17
 
-    admitted_on : {A : Type 0} (f : ArqInactivity → After A ArqInactivity) → Admits s b → onward s (admitted s b) f ≡ f (clocked s b)
+    admitted_on : {A : Type 0} (f : Timer → After A Timer) → Admits s b → onward s (admitted s b) f ≡ f (clocked s b)
     admitted_on f a = rw (a.tokens, le-ltb b s.last_block a.later)
 
-    on_18 : {A : Type 0} (f : ArqInactivity → After A ArqInactivity) → fewer_than 4 s.next_token ≡ true → onward s (admitted s b) f ≡ refused_by 18 s
+    on_18 : {A : Type 0} (f : Timer → After A Timer) → fewer_than 4 s.next_token ≡ true → onward s (admitted s b) f ≡ refused_by 18 s
     on_18 f e = rw e
 
-    on_17 : {A : Type 0} (f : ArqInactivity → After A ArqInactivity) → fewer_than 4 s.next_token ≡ false → b < s.last_block → onward s (admitted s b) f ≡ refused_by 17 s
+    on_17 : {A : Type 0} (f : Timer → After A Timer) → fewer_than 4 s.next_token ≡ false → b < s.last_block → onward s (admitted s b) f ≡ refused_by 17 s
     on_17 f e l = rw (e, lt-ltb b s.last_block l)
 
     -- ---- advance
@@ -109,7 +107,7 @@ module _ (s : ArqInactivity) where
       unfolding advance_of
       advances e = admitted_on _ a ∙ ap (λ (k : State). acts (due k (clocked s b))) e
 
-      stays : {k : State} → s.state ≡ k → acts (turn None (clocked s b)) ≡ answers None (goes_to s k b s.unsolicited_pending)
+      stays : {k : State} → s.state ≡ k → acts (clocked s b, None) ≡ answers None (goes_to s k b s.unsolicited_pending)
       stays e = ap (λ (k : State). answers None (goes_to s k b s.unsolicited_pending)) e
 
       pub idle-says_none : s.state ≡ Idle → advance_of s b ≡ answers None (goes_to s Idle b s.unsolicited_pending)
@@ -119,13 +117,13 @@ module _ (s : ArqInactivity) where
       sending_says_none e = advances e ∙ stays e
 
       module _ (since : ℕ) where
-        abbrev asks : Bool → Bool → After InactivityAction ArqInactivity
-        asks pending long = acts (cond (not pending && long) (turn RequestUnsolicitedStatus (in_state (clocked s b) SendingUnsolicited true)) (turn None (clocked s b)))
+        abbrev asks : Bool → Bool → After InactivityAction Timer
+        asks pending long = acts (cond (not pending && long) (in_state (clocked s b) SendingUnsolicited true, RequestUnsolicitedStatus) (clocked s b, None))
 
-        asks_not : (long : Bool) → asks true long ≡ acts (turn None (clocked s b))
+        asks_not : (long : Bool) → asks true long ≡ acts (clocked s b, None)
         asks_not long = refl
 
-        asks_early : (pending : Bool) → asks pending false ≡ acts (turn None (clocked s b))
+        asks_early : (pending : Bool) → asks pending false ≡ acts (clocked s b, None)
         asks_early true = refl
         asks_early false = refl
 
@@ -139,8 +137,8 @@ module _ (s : ArqInactivity) where
         pub waiting_pending : s.state ≡ Waiting since → s.unsolicited_pending ≡ true → advance_of s b ≡ answers None (goes_to s (Waiting since) b s.unsolicited_pending)
         waiting_pending e p = advances e ∙ ap (λ (x : Bool). asks x (leb 32 (b - since))) p ∙ asks_not (leb 32 (b - since)) ∙ stays e
 
-        abbrev ends : Bool → After InactivityAction ArqInactivity
-        ends long = acts (cond long (turn Terminate (renewed (clocked s b))) (turn None (clocked s b)))
+        abbrev ends : Bool → After InactivityAction Timer
+        ends long = acts (cond long (renewed (clocked s b), Terminate) (clocked s b, None))
 
         -- 32 more: the end
         pub final_ends : s.state ≡ FinalWait since → since + 32 ≤ b → advance_of s b ≡ answers Terminate (starts_anew s b)
@@ -162,7 +160,7 @@ module _ (s : ArqInactivity) where
       foreign_solicited n = rw (ne_eqb t.0 s.transaction.0 n)
 
       module _ (own : t.0 ≡ s.transaction.0) where
-        taken : (f : ArqInactivity → Turn) → reported s t b f ≡ onward s (admitted s b) (λ u. acts (f u))
+        taken : (f : Timer → Timer × InactivityAction) → reported s t b f ≡ onward s (admitted s b) (λ u. acts (f u))
         taken f = rw (eq-eqb t.0 s.transaction.0 own)
 
         pub unsolicited_18 : fewer_than 4 s.next_token ≡ true → unsolicited_of s t b r ≡ refused_by 18 s
@@ -190,8 +188,8 @@ module _ (s : ArqInactivity) where
           unfolding solicited_of
           solicited_on = taken _ ∙ admitted_on _ a
 
-          abbrev heeds : Bool → After InactivityAction ArqInactivity
-          heeds pending = acts (cond pending (unsolicited_by r (clocked s b)) (turn None (clocked s b)))
+          abbrev heeds : Bool → After InactivityAction Timer
+          heeds pending = acts (cond pending (unsolicited_by r (clocked s b)) (clocked s b, None))
 
           -- an unsolicited one where none is pending: the clock alone
           pub none_pending : s.unsolicited_pending ≡ false → unsolicited_of s t b r ≡ answers None (goes_to s s.state b s.unsolicited_pending)
@@ -212,8 +210,8 @@ module _ (s : ArqInactivity) where
               unsolicited_on ∙ ap heeds e ∙ ap (λ (x : StatusResult). acts (unsolicited_by x (clocked s b))) f
               ∙ ap (λ (x : State). answers None (goes_to s (sent_from x b) b false)) k
 
-          abbrev hears : Bool → After InactivityAction ArqInactivity
-          hears idle = acts (cond idle (turn None (clocked s b)) (solicited_by r (clocked s b)))
+          abbrev hears : Bool → After InactivityAction Timer
+          hears idle = acts (cond idle (clocked s b, None) (solicited_by r (clocked s b)))
 
           -- a solicited one where no transaction is watched: the clock alone
           pub idle_hears_not : s.state ≡ Idle → solicited_of s t b r ≡ answers None (goes_to s s.state b s.unsolicited_pending)

@@ -1,11 +1,8 @@
--- The results of both kinds of status in one, for the function that both calls go through. Only contracts need this. Assumes
--- nothing.
-use Rattle.std.specs.Prelude.{Bool, cond}
-use Rattle.inactivity.specs.declared.StatusResult.{StatusResult}
-use Rattle.inactivity.specs.declared.ArqInactivity.{ArqInactivity}
-use Rattle.inactivity.specs.declared.Turn.{Turn}
-use Rattle.inactivity.specs.Inactivity.{solicited_at, unsolicited_at}
+-- What the function that both kinds of status result go through asks of its closure. Only contracts need this. Assumes nothing.
+use Rattle.std.specs.Prelude.{◌≡◌}
+use Rattle.inactivity.specs.declared.InactivityAction.{InactivityAction}
+use Rattle.inactivity.specs.Inactivity.{Timer}
 
--- a solicited one, or an unsolicited
-abbrev pub result_at : Bool → StatusResult → ArqInactivity → Turn
-result_at solicited r s = cond solicited (solicited_at r s) (unsolicited_at r s)
+-- a closure whose results are such does what f says
+abbrev pub Does : (Timer → Timer × InactivityAction → Type 0) → (Timer → Timer × InactivityAction) → Type 0
+Does post f = (t : Timer) (r : Timer × InactivityAction) → post t r → r ≡ f t

@@ -4,49 +4,46 @@
 
 pub mod lent;
 
-ghost use Rattle.std.specs.Prelude.{◌≡◌, ◌≤◌};
-ghost use Rattle.inactivity.specs.Inactivity.{Sound, new_of, token_of, owns_of, renewed, in_state, waiting, is_idle, sent_from, turn, acts, inactivity_blocks, elapsed, admitted, reset_of, observe_of, received_frame_of, due_of, advance_of, unsolicited_at, unsolicited_of, solicited_at, solicited_of, reported, observed, has_reset, acted, admission, clock_number, refusal_of};
-ghost use Rattle.inactivity.specs.Result.{result_at};
-ghost use Rattle.spach.specs.Refusal.{refuses};
+ghost use Rattle.std.specs.Prelude.{◌≡◌, IfOk, IfErr};
+ghost use Rattle.inactivity.specs.Inactivity.{Timer, new_of, token_of, owns_of, renewed, waiting, sent_from, enough, ticked, admitted, reset_of, observe_of, received_frame_of, due_of, advance_of, unsolicited_at, unsolicited_of, solicited_at, solicited_of, reported, clock_number, refusal_of};
+ghost use Rattle.inactivity.specs.Apart.{clocks_apart, refusals_apart};
+ghost use Rattle.inactivity.specs.Result.{Does};
+ghost use Rattle.spach.specs.Refusal.{number_of, by_number, left};
 
-use spach::{SpachError, Verdict};
+use spach::{Numbered, SpachError};
+use std::marker::Model;
 
 const INACTIVITY_BLOCKS: u64 = 32;
 
-// The constant, as the definitions name it.
-fn inactivity_blocks() -> u64
-    ensures { result ≡ inactivity_blocks }
-{
-    INACTIVITY_BLOCKS
-}
-
 // Tells the transactions of one timer apart: a number of its counter.
-#[derive(Clone, Copy)]
+#[derive(Clone, Copy, Debug, PartialEq, Eq)]
 pub struct TransactionToken(pub u64);
 
-#[derive(Clone, Copy)]
+#[derive(Clone, Copy, Debug, PartialEq, Eq)]
 pub enum InactivityAction {
     None,
     RequestUnsolicitedStatus,
     Terminate,
 }
 
-#[derive(Clone, Copy)]
+// The Rust's own, as 01 has it ("as written"): a failed status is told by whoever was to send it, and is no error here.
+#[derive(Clone, Copy, Debug, PartialEq, Eq)]
 pub enum StatusResult {
     Sent,
     Failed,
 }
 
-#[derive(Clone, Copy)]
+#[derive(Clone, Copy, Debug, PartialEq, Eq)]
 pub enum InactivityError {
     ClockBackwards,
 }
 
-impl InactivityError {
-    // Document 01's number.
-    pub fn number(self) -> u8
-        ensures { result ≡ clock_number self }
-    {
+impl Numbered for InactivityError {
+    ghost number_of = { clock_number };
+
+    ghost numbers_apart = { clocks_apart };
+
+    fn number(self) -> u8 {
         match self {
             InactivityError::ClockBackwards => 17,
         }
@@ -54,17 +51,40 @@ impl InactivityError {
 }
 
 // Why a call of the timer or of the procedure is refused.
-#[derive(Clone, Copy)]
+#[derive(Clone, Copy, Debug, PartialEq, Eq)]
 pub enum ProcedureError {
     Wire(SpachError),
     Clock(InactivityError),
 }
 
-impl ProcedureError {
-    // Document 01's number.
-    pub fn number(self) -> u8
-        ensures { result ≡ refusal_of self }
-    {
+impl From<SpachError> for ProcedureError {
+    ghost use Rattle.std.specs.Prelude.{◌≡◌};
+    ghost use Rattle.inactivity.specs.declared.ProcedureError.TheVariants.{Wire};
+
+    ghost from_gives = { λ error r. r ≡ Wire error };
+
+    fn from(error: SpachError) -> Self {
+        ProcedureError::Wire(error)
+    }
+}
+
+impl From<InactivityError> for ProcedureError {
+    ghost use Rattle.std.specs.Prelude.{◌≡◌};
+    ghost use Rattle.inactivity.specs.declared.ProcedureError.TheVariants.{Clock};
+
+    ghost from_gives = { λ error r. r ≡ Clock error };
+
+    fn from(error: InactivityError) -> Self {
+        ProcedureError::Clock(error)
+    }
+}
+
+impl Numbered for ProcedureError {
+    ghost number_of = { refusal_of };
+
+    ghost numbers_apart = { refusals_apart };
+
+    fn number(self) -> u8 {
         match self {
             ProcedureError::Wire(wire) => wire.number(),
             ProcedureError::Clock(clock) => clock.number(),
@@ -72,7 +92,8 @@ impl ProcedureError {
     }
 }
 
-#[derive(Clone, Copy)]
+// The Rust's own, with `unsolicited_pending` beside it: a frame moves the state on while a status is pending.
+#[derive(Clone, Copy, Debug, PartialEq, Eq)]
 pub enum State {
     Idle,
     Waiting { since_block: u64 },
@@ -80,133 +101,82 @@ pub enum State {
     FinalWait { since_block: u64 },
 }
 
-#[derive(Clone, Copy)]
+impl State {
+    // After an unsolicited status was sent at a block.
+    fn sent(self, block: u64) -> State
+        ensures { result ≡ sent_from self block }
+    {
+        if let State::Waiting { .. } = self {
+            State::Waiting { since_block: block }
+        } else {
+            State::FinalWait { since_block: block }
+        }
+    }
+}
+
+// Contracts see a Timer (specs/Inactivity.antt), and every value is Sound.
+#[derive(Clone, Copy, Debug, PartialEq, Eq)]
 pub struct ArqInactivity {
-    pub state: State,
-    pub last_block: u64,
-    pub unsolicited_pending: bool,
-    pub transaction: TransactionToken,
-    pub next_token: u64,
+    state: State,
+    last_block: u64,
+    unsolicited_pending: bool,
+    transaction: TransactionToken,
+    next_token: u64,
 }
 
-// An action, and the timer beside it.
-#[derive(Clone, Copy)]
-pub struct Turn {
-    pub timer: ArqInactivity,
-    pub action: InactivityAction,
+impl Model for ArqInactivity {
+    ghost use Rattle.inactivity.specs.Inactivity.{Timer, Sound};
+
+    ghost Value = { Timer };
+
+    ghost view = { λ t. record { state = t.state; last_block = t.last_block; unsolicited_pending = t.unsolicited_pending; transaction = t.transaction; next_token = t.next_token } };
+
+    ghost invariant = { λ t. Sound (view t) };
+
+    ghost inverse = { λ t. record { state = t.state; last_block = t.last_block; unsolicited_pending = t.unsolicited_pending; transaction = t.transaction; next_token = t.next_token } };
 }
 
-#[derive(Clone, Copy)]
-pub enum ClockAnswer {
-    Moved,
-    Refused(InactivityError),
-}
-
-#[derive(Clone, Copy)]
-pub struct Observed {
-    pub timer: ArqInactivity,
-    pub answer: ClockAnswer,
-}
-
-#[derive(Clone, Copy)]
-pub struct Reset {
-    pub timer: ArqInactivity,
-    pub verdict: Verdict,
-}
-
-#[derive(Clone, Copy)]
-pub enum ActionAnswer {
-    Action(InactivityAction),
-    Refused(ProcedureError),
-}
-
-#[derive(Clone, Copy)]
-pub struct Acted {
-    pub timer: ArqInactivity,
-    pub answer: ActionAnswer,
-}
-
-// The timer at its moved clock, or why the call is refused.
-#[derive(Clone, Copy)]
-pub enum Admission {
-    Admitted(ArqInactivity),
-    Refused(ProcedureError),
-}
-
-fn turned(timer: ArqInactivity, action: InactivityAction) -> Turn
-    ensures { result ≡ turn action timer }
+// What a call leaves: a refusal leaves the state as it was.
+pub fn onward<S: Copy, A, E>(state: S, call: Result<(S, A), E>) -> (S, Result<A, E>)
+    ensures ok { IfOk call (λ t. result ≡ (t.0, Ok (t.1))) }
+    ensures err { IfErr call (λ e. result ≡ (state, Err e)) }
 {
-    Turn {
-        timer: timer,
-        action: action,
-    }
-}
-
-fn act(turn: Turn) -> Acted
-    ensures { acted result ≡ acts turn }
-{
-    let timer = turn.timer;
-    let action = turn.action;
-    Acted {
-        timer: timer,
-        answer: ActionAnswer::Action(action),
-    }
-}
-
-// A refusal leaves the timer.
-fn refuse(timer: ArqInactivity, error: ProcedureError) -> Acted
-    ensures { acted result ≡ record { outcome = refuses (refusal_of error); state = timer } }
-{
-    Acted {
-        timer: timer,
-        answer: ActionAnswer::Refused(error),
-    }
-}
-
-fn is_idle(state: State) -> bool
-    ensures { result ≡ is_idle state }
-{
-    match state {
-        State::Idle => true,
-        State::Waiting { since_block: _ } => false,
-        State::SendingUnsolicited => false,
-        State::FinalWait { since_block: _ } => false,
-    }
-}
-
-// The state after an unsolicited status was sent.
-fn sent_from(state: State, block: u64) -> State
-    ensures { result ≡ sent_from state block }
-{
-    match state {
-        State::Idle => State::FinalWait { since_block: block },
-        State::Waiting { since_block: _ } => State::Waiting { since_block: block },
-        State::SendingUnsolicited => State::FinalWait { since_block: block },
-        State::FinalWait { since_block: _ } => State::FinalWait { since_block: block },
+    match call {
+        Ok((after, answer)) => (after, Ok(answer)),
+        Err(error) => (state, Err(error)),
     }
 }
 
 impl ArqInactivity {
     // Idle, under the first token.
-    pub fn new(first: u64) -> ArqInactivity
-        ensures { (result ≡ new_of first) × Sound result }
+    pub fn new(first: u64) -> Self
+        ensures { result ≡ new_of first }
     {
-        let next = token::number_after(first);
-        let state = State::Idle;
-        let transaction = TransactionToken(first);
         ArqInactivity {
-            state: state,
+            state: State::Idle,
             last_block: 0,
             unsolicited_pending: false,
-            transaction: transaction,
-            next_token: next,
+            transaction: TransactionToken(first),
+            next_token: token::number_after(first),
         }
     }
 
-    pub fn owns(self, token: TransactionToken) -> bool
-        ensures { result ≡ owns_of self token }
+    pub fn state(self) -> State
+        ensures { result ≡ self.state }
     {
-        token.0 == self.transaction.0
+        self.state
+    }
+
+    pub fn last_block(self) -> u64
+        ensures { result ≡ self.last_block }
+    {
+        self.last_block
+    }
+
+    pub fn unsolicited_pending(self) -> bool
+        ensures { result ≡ self.unsolicited_pending }
+    {
+        self.unsolicited_pending
     }
 
     pub fn token(self) -> TransactionToken
@@ -215,253 +185,196 @@ impl ArqInactivity {
         self.transaction
     }
 
-    // The Rust's reset, inner ones too: idle, under the next token. How many are left is its callers' to ask.
-    pub fn renew(self) -> ArqInactivity
-        ensures { result ≡ renewed self }
+    pub fn next_token(self) -> u64
+        ensures { result ≡ self.next_token }
     {
-        let next = token::number_after(self.next_token);
-        let state = State::Idle;
-        let transaction = TransactionToken(self.next_token);
-        ArqInactivity {
-            state: state,
-            last_block: self.last_block,
-            unsolicited_pending: false,
-            transaction: transaction,
-            next_token: next,
-        }
+        self.next_token
     }
 
-    // The same timer in another state.
-    fn in_state(self, state: State, unsolicited_pending: bool) -> ArqInactivity
-        ensures { result ≡ in_state self state unsolicited_pending }
+    pub fn owns(self, token: TransactionToken) -> bool
+        ensures { result ≡ owns_of self token }
     {
-        let transaction = self.transaction;
+        token == self.transaction
+    }
+
+    // The Rust's reset, inner ones too: idle, under the next token. How many are left is its callers' to ask.
+    pub fn renew(self) -> Self
+        ensures { result ≡ renewed self }
+    {
         ArqInactivity {
-            state: state,
-            last_block: self.last_block,
-            unsolicited_pending: unsolicited_pending,
-            transaction: transaction,
-            next_token: self.next_token,
+            state: State::Idle,
+            unsolicited_pending: false,
+            transaction: TransactionToken(self.next_token),
+            next_token: token::number_after(self.next_token),
+            ..self
         }
     }
 
     // Waiting from the clock's block on.
-    pub fn wait(self) -> ArqInactivity
+    pub fn wait(self) -> Self
         ensures { result ≡ waiting self }
     {
-        let state = State::Waiting {
-            since_block: self.last_block,
-        };
-        self.in_state(state, self.unsolicited_pending)
+        ArqInactivity {
+            state: State::Waiting {
+                since_block: self.last_block,
+            },
+            ..self
+        }
     }
 
-    // Fewer than 4 tokens left 18, then the clock gone back 17; else the clock is moved.
-    pub fn admit(mut self, tdma_block: u64) -> Admission
-        ensures { admission result ≡ admitted self tdma_block }
+    // Fewer than 4 tokens left: 18.
+    pub fn enough(self) -> Result<Self, SpachError>
+        ensures { by_number number_of result ≡ enough self }
     {
         if token::fewer_than(4, self.next_token) {
-            return Admission::Refused(ProcedureError::Wire(SpachError::Tokens));
+            return Err(SpachError::Tokens);
         }
+        Ok(self)
+    }
+
+    // The clock gone back: 17; else it is moved.
+    pub fn tick(self, tdma_block: u64) -> Result<Self, InactivityError>
+        ensures { by_number clock_number result ≡ ticked self tdma_block }
+    {
         if tdma_block < self.last_block {
-            return Admission::Refused(ProcedureError::Clock(InactivityError::ClockBackwards));
+            return Err(InactivityError::ClockBackwards);
         }
-        self.last_block = tdma_block;
-        Admission::Admitted(self)
+        Ok(ArqInactivity {
+            last_block: tdma_block,
+            ..self
+        })
     }
 
-    pub fn reset(self) -> Reset
-        requires { Sound self }
-        ensures { (has_reset result ≡ reset_of self) × Sound result.timer }
+    // 18, then 17; else the clock is moved.
+    pub fn admit(self, tdma_block: u64) -> Result<Self, ProcedureError>
+        ensures { by_number refusal_of result ≡ admitted self tdma_block }
     {
-        if token::fewer_than(4, self.next_token) {
-            return Reset {
-                timer: self,
-                verdict: Verdict::Refused(SpachError::Tokens),
-            };
-        }
-        let fresh = self.renew();
-        Reset {
-            timer: fresh,
-            verdict: Verdict::Accepted,
-        }
-    }
-
-    // For a matching accepted frame, only while message frames remain pending.
-    pub fn received_frame(self, tdma_block: u64) -> Observed
-        requires { Sound self }
-        ensures { (observed result ≡ received_frame_of self tdma_block) × Sound result.timer }
-    {
-        let seen = self.observe(tdma_block);
-        let answer = seen.answer;
-        if let ClockAnswer::Refused(_) = answer {
-            return seen;
-        }
-        let timer = seen.timer;
-        let waiting = timer.wait();
-        Observed {
-            timer: waiting,
-            answer: ClockAnswer::Moved,
-        }
-    }
-
-    // Whether 32 blocks have passed since a block.
-    fn elapsed(self, since_block: u64) -> bool
-        requires { since_block ≤ self.last_block }
-        ensures { result ≡ elapsed self since_block }
-    {
-        INACTIVITY_BLOCKS <= self.last_block - since_block
+        Ok(self.enough()?.tick(tdma_block)?)
     }
 
     // What is due at the clock's block.
-    pub fn due(self) -> Turn
-        requires { Sound self }
+    pub fn due(self) -> (Self, InactivityAction)
         ensures { result ≡ due_of self }
     {
-        let state = self.state;
-        match state {
-            State::Waiting { since_block } => {
-                if self.unsolicited_pending {
-                    return turned(self, InactivityAction::None);
-                }
-                if !self.elapsed(since_block) {
-                    return turned(self, InactivityAction::None);
-                }
-                let asking = self.in_state(State::SendingUnsolicited, true);
-                turned(asking, InactivityAction::RequestUnsolicitedStatus)
+        match self.state {
+            State::Waiting { since_block }
+                if !self.unsolicited_pending
+                    && INACTIVITY_BLOCKS <= self.last_block - since_block => {
+                let asking = ArqInactivity {
+                    state: State::SendingUnsolicited,
+                    unsolicited_pending: true,
+                    ..self
+                };
+                (asking, InactivityAction::RequestUnsolicitedStatus)
             }
-            State::FinalWait { since_block } => {
-                if !self.elapsed(since_block) {
-                    return turned(self, InactivityAction::None);
-                }
-                let ended = self.renew();
-                turned(ended, InactivityAction::Terminate)
+            State::FinalWait { since_block }
+                if INACTIVITY_BLOCKS <= self.last_block - since_block => {
+                (self.renew(), InactivityAction::Terminate)
             }
-            State::Idle => turned(self, InactivityAction::None),
-            State::SendingUnsolicited => turned(self, InactivityAction::None),
-        }
-    }
-
-    // IS-136.1-A 5.4.2.2: both inactivity intervals are 32 TDMA blocks.
-    pub fn advance(self, tdma_block: u64) -> Acted
-        requires { Sound self }
-        ensures { (acted result ≡ advance_of self tdma_block) × Sound result.timer }
-    {
-        let admission = self.admit(tdma_block);
-        match admission {
-            Admission::Refused(error) => refuse(self, error),
-            Admission::Admitted(timer) => act(timer.due()),
+            _ => (self, InactivityAction::None),
         }
     }
 
     // An unsolicited status was sent, or was not, at the clock's block.
-    pub fn unsolicited_at(self, res: StatusResult) -> Turn
+    pub fn unsolicited_at(self, res: StatusResult) -> (Self, InactivityAction)
         ensures { result ≡ unsolicited_at res self }
     {
         if !self.unsolicited_pending {
-            return turned(self, InactivityAction::None);
+            return (self, InactivityAction::None);
         }
         match res {
             StatusResult::Sent => {
-                let state = self.state;
-                let next = sent_from(state, self.last_block);
-                let told = self.in_state(next, false);
-                turned(told, InactivityAction::None)
+                let told = ArqInactivity {
+                    state: self.state.sent(self.last_block),
+                    unsolicited_pending: false,
+                    ..self
+                };
+                (told, InactivityAction::None)
             }
-            StatusResult::Failed => {
-                let ended = self.renew();
-                turned(ended, InactivityAction::Terminate)
-            }
+            StatusResult::Failed => (self.renew(), InactivityAction::Terminate),
         }
     }
 
     // A solicited status was sent, or was not, at the clock's block.
-    pub fn solicited_at(self, res: StatusResult) -> Turn
+    pub fn solicited_at(self, res: StatusResult) -> (Self, InactivityAction)
         ensures { result ≡ solicited_at res self }
     {
-        let state = self.state;
-        if is_idle(state) {
-            return turned(self, InactivityAction::None);
+        if self.state == State::Idle {
+            return (self, InactivityAction::None);
         }
         match res {
-            StatusResult::Sent => {
-                let told = self.wait();
-                turned(told, InactivityAction::None)
-            }
-            StatusResult::Failed => {
-                let ended = self.renew();
-                turned(ended, InactivityAction::Terminate)
-            }
+            StatusResult::Sent => (self.wait(), InactivityAction::None),
+            StatusResult::Failed => (self.renew(), InactivityAction::Terminate),
         }
     }
 
-    fn result_at(self, solicited: bool, res: StatusResult) -> Turn
-        ensures { result ≡ result_at solicited res self }
+    #[tactic(auto, unfolding(crate::specs::Inactivity::reset_of))]
+    pub fn reset(self) -> (Self, Result<(), SpachError>)
+        ensures { left number_of result ≡ reset_of self }
     {
-        if solicited {
-            return self.solicited_at(res);
-        }
-        self.unsolicited_at(res)
+        onward(self, self.enough().map(|timer| (timer.renew(), ())))
+    }
+
+    #[tactic(auto, unfolding(crate::specs::Inactivity::observe_of))]
+    pub fn observe(self, tdma_block: u64) -> (Self, Result<(), InactivityError>)
+        ensures { left clock_number result ≡ observe_of self tdma_block }
+    {
+        onward(self, self.tick(tdma_block).map(|timer| (timer, ())))
+    }
+
+    // For a matching accepted frame, only while message frames remain pending.
+    #[tactic(auto, unfolding(crate::specs::Inactivity::received_frame_of))]
+    pub fn received_frame(self, tdma_block: u64) -> (Self, Result<(), InactivityError>)
+        ensures { left clock_number result ≡ received_frame_of self tdma_block }
+    {
+        onward(self, self.tick(tdma_block).map(|timer| (timer.wait(), ())))
+    }
+
+    // IS-136.1-A 5.4.2.2: both inactivity intervals are 32 TDMA blocks.
+    #[tactic(auto, unfolding(crate::specs::Inactivity::advance_of))]
+    pub fn advance(self, tdma_block: u64) -> (Self, Result<InactivityAction, ProcedureError>)
+        ensures { left refusal_of result ≡ advance_of self tdma_block }
+    {
+        onward(self, self.admit(tdma_block).map(Self::due))
     }
 
     // A foreign token gives None first; then 18, then 17.
-    fn status_result(
+    fn status_result<F: FnOnce(Self) -> (Self, InactivityAction)>(
         self,
-        solicited: bool,
         token: TransactionToken,
         tdma_block: u64,
-        res: StatusResult,
-    ) -> Acted
-        requires { Sound self }
-        ensures { (acted result ≡ reported self token tdma_block (result_at solicited res)) × Sound result.timer }
+        heed: F,
+    ) -> (Self, Result<InactivityAction, ProcedureError>)
+        requires { F.IsAlwaysCallable heed }
+        ensures { (f : Timer → Timer × InactivityAction) → Does (F.post heed) f → left refusal_of result ≡ reported self token tdma_block f }
     {
         if !self.owns(token) {
-            return act(turned(self, InactivityAction::None));
+            return (self, Ok(InactivityAction::None));
         }
-        let admission = self.admit(tdma_block);
-        match admission {
-            Admission::Refused(error) => refuse(self, error),
-            Admission::Admitted(timer) => act(timer.result_at(solicited, res)),
-        }
+        onward(self, self.admit(tdma_block).map(heed))
     }
 
+    #[tactic(auto, unfolding(crate::specs::Inactivity::unsolicited_of))]
     pub fn unsolicited_status_result(
         self,
         token: TransactionToken,
         tdma_block: u64,
         res: StatusResult,
-    ) -> Acted
-        requires { Sound self }
-        ensures { (acted result ≡ unsolicited_of self token tdma_block res) × Sound result.timer }
+    ) -> (Self, Result<InactivityAction, ProcedureError>)
+        ensures { left refusal_of result ≡ unsolicited_of self token tdma_block res }
     {
-        self.status_result(false, token, tdma_block, res)
+        self.status_result(token, tdma_block, |timer| timer.unsolicited_at(res))
     }
 
+    #[tactic(auto, unfolding(crate::specs::Inactivity::solicited_of))]
     pub fn solicited_status_result(
         self,
         token: TransactionToken,
         tdma_block: u64,
         res: StatusResult,
-    ) -> Acted
-        requires { Sound self }
-        ensures { (acted result ≡ solicited_of self token tdma_block res) × Sound result.timer }
+    ) -> (Self, Result<InactivityAction, ProcedureError>)
+        ensures { left refusal_of result ≡ solicited_of self token tdma_block res }
     {
-        self.status_result(true, token, tdma_block, res)
-    }
-
-    pub fn observe(mut self, tdma_block: u64) -> Observed
-        requires { Sound self }
-        ensures { (observed result ≡ observe_of self tdma_block) × Sound result.timer }
-    {
-        if tdma_block < self.last_block {
-            return Observed {
-                timer: self,
-                answer: ClockAnswer::Refused(InactivityError::ClockBackwards),
-            };
-        }
-        self.last_block = tdma_block;
-        Observed {
-            timer: self,
-            answer: ClockAnswer::Moved,
-        }
+        self.status_result(token, tdma_block, |timer| timer.solicited_at(res))
     }
 }

@@ -1,14 +1,12 @@
--- The lines of a listing over all inputs: numbers and octets as text, each field of a line, and what is counted. They are said by plain numbers
--- (ASCII), over io's own digits and demand 3's run; a definition that is changed, and its code alike, meets these no more. Assumes nothing.
-use mathlib.Core.Path.{◌≡◌, refl, sym, ap, ap₂, ◌∙◌}
-use mathlib.Core.List.{List, [], ◌∷◌, ◌++◌, append-nil}
-use Prim.Native.Nat.{ℕ, zero, suc, ◌+◌, ◌/◌, ◌%◌, ◌^◌, ◌≤◌, ◌<◌}
-use native.Mathlib.Omega.{arith}
-use native.Mathlib.Nat.{pow-suc, div-lt_iff_lt-mul}
-use lib.ListN.{length, take, drop, replicate, set}
-use lib.Seq.{take-length}
+-- The lines of a listing over all inputs: numbers and octets as text, each field of a line, and what is counted. They are said
+-- by plain numbers (ASCII), over the library's decimals and digits and demand 3's run; a definition that is changed, and its
+-- code alike, meets these no more. Assumes nothing.
+use Rattle.std.proofs.Common.{Option, None, Some, ◌≡◌, ℕ, suc, ◌+◌, ◌/◌, ◌%◌, ◌^◌, ◌≤◌, ◌<◌, List, [], ◌∷◌, ◌++◌, length, take, drop, replicate, refl, ap, ap₂, ◌∙◌, arith, append-nil}
+use Rattle.std.specs.Fmt.{decimal}
+use Rattle.std.proofs.lemmas.Fmt.{decimal_digit, decimal_step}
 use borrow.Author.Tests.{lt-ltb, le-ltb}
 use Rattle.io.specs.Digits.{last_digits, hex_digit_ascii}
+use Rattle.hex.specs.Hex.{encode_with, encode_lower}
 use Rattle.field.specs.Bits.{bits, bits_of, field}
 use Rattle.field.proofs.Laws.{length-bits, field_right}
 use Rattle.spach.specs.Refusal.{Outcome, gives, refuses, and_then}
@@ -16,121 +14,88 @@ use Rattle.spach.specs.Identity.{accept_identity}
 use Rattle.receiver.specs.declared.ArqReassembler.{ArqReassembler}
 use Rattle.receiver.specs.declared.ArqStatus.{ArqStatus}
 use Rattle.receiver.specs.declared.SingleMessage.{SingleMessage}
-use Rattle.receiver.specs.declared.Delivery.TheVariants as deliveries
-use Rattle.receiver.specs.declared.StatusAnswer.TheVariants as statuses
-use Rattle.receiver.specs.declared.Request.{Request}
+use Rattle.receiver.specs.declared.StatusRequest.{StatusRequest}
 use Rattle.receiver.specs.declared.Reception.{Reception}
 use Rattle.receiver.specs.declared.Reception.TheVariants.{Ignored, Accepted}
 use Rattle.receiver.specs.Receiver.{Out, new_of, push_of, status_answer}
 use Rattle.receiver.specs.Demand3.{Push, runs}
 use Rattle.listing.specs.declared.Session.{Session}
-use Rattle.listing.specs.Text.{written, decimal_in, decimal_of, hex_of}
-use Rattle.listing.specs.Line.{answer_text, held_text, octets_text, delivery_of, delivery_text, line_of, cut_line, messages_line, first_line}
-use Rattle.listing.specs.Session.{open_of, push_with, pushes_of, frames_of, counted, out_of, step_of, after_of, lines_of, new_session, last_lines, listing_from, listing_of}
-use Rattle.listing.proofs.Sessions.{after-runs, after-append, lines-append, frames_append}
+use Rattle.listing.specs.Line.{answer_text, held_text, delivery_of, delivery_text, line_of, cut_line}
+use Rattle.listing.specs.Session.{open_of, frames_of, counted, out_of, step_of, after_of, lines_of, new_session, last_lines, rest_of, listing_from, listing_of}
+use Rattle.listing.proofs.Digits.{digit_is}
+use Rattle.listing.proofs.Sessions.{after-runs, after-append, lines-append, frames_append, frames_one, frames_few}
 
 -- ---- numbers and octets
 
-in_one : (k n : ℕ) → n < 10 → decimal_in k n ≡ (48 + n) ∷ []
-unfolding decimal_in
-in_one zero n h = let e : n % 10 ≡ n = omega arith in rw (e, lt-ltb n 10 h)
-in_one (suc k) n h = let e : n % 10 ≡ n = omega arith in rw (e, lt-ltb n 10 h)
-
--- below 10^(k + 1) it does not matter how many digits may follow
-in_less : (k n : ℕ) → n < 10 ^ suc k → decimal_in k n ≡ decimal_in (suc k) n
-unfolding decimal_in
-in_less zero n h = let l : n < 10 = h in in_one 0 n l ∙ sym (in_one 1 n l)
-in_less (suc k) n h =
-    let l : n / 10 < 10 ^ suc k = (div-lt_iff_lt-mul {k = 10} {x = n} {y = 10 ^ suc k} (omega arith)).1 (rw (pow-suc 10 (suc k)) at h) in
-    rw (in_less k (n / 10) l)
-
 -- a number below 10 is its digit
-pub decimal_one : (n : ℕ) → n < 10 → decimal_of n ≡ (48 + n) ∷ []
-unfolding decimal_of
-decimal_one n h = in_one 19 n h
+pub decimal_one : (n : ℕ) → n < 10 → decimal n ≡ (48 + n) ∷ []
+decimal_one n h = decimal_digit n h
 
 -- any other is all but its last digit, then that one: so none begins with a zero
-pub decimal_more : (n : ℕ) → 10 ≤ n → n < 2 ^ 64 → decimal_of n ≡ decimal_of (n / 10) ++ ((48 + n % 10) ∷ [])
-unfolding decimal_of decimal_in
-decimal_more n h l =
-    let digit : hex_digit_ascii (n % 10) ≡ 48 + n % 10 = rw (lt-ltb (n % 10) 10 (omega arith)) in
-    let less : decimal_in 18 (n / 10) ≡ decimal_in 19 (n / 10) = in_less 18 (n / 10) (omega arith) in
-    rw (le-ltb n 10 h) (ap₂ (λ (ds : List ℕ) (d : ℕ). ds ++ (d ∷ [])) less digit)
+pub decimal_more : (n : ℕ) → 10 ≤ n → n < 2 ^ 64 → decimal n ≡ decimal (n / 10) ++ ((48 + n % 10) ∷ [])
+decimal_more n h l = decimal_step n h l
 
 -- octets in hex: two digits for each, in order
-pub hex_none : hex_of [] ≡ []
-unfolding hex_of
+pub hex_none : encode_lower [] ≡ []
+unfolding encode_with
 hex_none = refl
 
-pub hex_more : (x : ℕ) (xs : List ℕ) → x < 256 → hex_of (x ∷ xs) ≡ hex_digit_ascii (x / 16) ∷ hex_digit_ascii (x % 16) ∷ hex_of xs
-unfolding hex_of
-hex_more x xs h = let e : x / 16 % 16 ≡ x / 16 = omega arith in rw e
+pub hex_more : (x : ℕ) (xs : List ℕ) → x < 256 → encode_lower (x ∷ xs) ≡ hex_digit_ascii (x / 16) ∷ hex_digit_ascii (x % 16) ∷ encode_lower xs
+unfolding encode_with
+hex_more x xs h = rw (digit_is (x / 16) (omega arith), digit_is (x % 16) (omega arith))
 
 -- ---- the fields of a line
 
 -- frame, answer, echo and map, message, divided by single spaces
 pub line_is : (n : ℕ) (o : Out)
-    → line_of n o ≡ decimal_of n ++ (32 ∷ []) ++ answer_text o.outcome ++ (32 ∷ []) ++ held_text (status_answer o.receiver) ++ (32 ∷ []) ++ delivery_text (delivery_of o.outcome) o.buffer ++ (10 ∷ [])
-unfolding line_of
+    → line_of n o ≡ decimal n ++ (32 ∷ []) ++ answer_text o.outcome ++ (32 ∷ []) ++ held_text (status_answer o.receiver) ++ (32 ∷ []) ++ delivery_text (delivery_of o.outcome) o.buffer ++ (10 ∷ [])
 line_is n o = refl
 
 -- `ignored`, `heard`, `message`, `refused-` and number
 pub answer_ignored : answer_text (gives Ignored) ≡ 105 ∷ 103 ∷ 110 ∷ 111 ∷ 114 ∷ 101 ∷ 100 ∷ []
-unfolding answer_text
 answer_ignored = refl
 
-pub answer_heard : (r : Request) → answer_text (gives (Accepted deliveries.Nothing r)) ≡ 104 ∷ 101 ∷ 97 ∷ 114 ∷ 100 ∷ []
-unfolding answer_text
+pub answer_heard : (r : Option StatusRequest) → answer_text (gives (Accepted None r)) ≡ 104 ∷ 101 ∷ 97 ∷ 114 ∷ 100 ∷ []
 answer_heard r = refl
 
-pub answer_message : (m : SingleMessage) (r : Request) → answer_text (gives (Accepted (deliveries.Message m) r)) ≡ 109 ∷ 101 ∷ 115 ∷ 115 ∷ 97 ∷ 103 ∷ 101 ∷ []
-unfolding answer_text
+pub answer_message : (m : SingleMessage) (r : Option StatusRequest) → answer_text (gives (Accepted (Some m) r)) ≡ 109 ∷ 101 ∷ 115 ∷ 115 ∷ 97 ∷ 103 ∷ 101 ∷ []
 answer_message m r = refl
 
-pub answer_refused : (n : ℕ) → answer_text (refuses n) ≡ (114 ∷ 101 ∷ 102 ∷ 117 ∷ 115 ∷ 101 ∷ 100 ∷ 45 ∷ []) ++ decimal_of n
-unfolding answer_text
+pub answer_refused : (n : ℕ) → answer_text (refuses n) ≡ (114 ∷ 101 ∷ 102 ∷ 117 ∷ 115 ∷ 101 ∷ 100 ∷ 45 ∷ []) ++ decimal n
 answer_refused n = refl
 
 -- the echo in decimal, the map in eight hex digits; `-` and zeros if none is held
-pub held_is : (x : ArqStatus) → held_text (statuses.Status x) ≡ decimal_of x.partial_echo ++ (32 ∷ []) ++ last_digits 16 8 x.received_frames
-unfolding held_text
+pub held_is : (x : ArqStatus) → held_text (Some x) ≡ decimal x.partial_echo ++ (32 ∷ []) ++ last_digits 16 8 x.received_frames
 held_is x = refl
 
-pub held_none : held_text statuses.Nothing ≡ 45 ∷ 32 ∷ 48 ∷ 48 ∷ 48 ∷ 48 ∷ 48 ∷ 48 ∷ 48 ∷ 48 ∷ []
-unfolding held_text
+pub held_none : held_text None ≡ 45 ∷ 32 ∷ 48 ∷ 48 ∷ 48 ∷ 48 ∷ 48 ∷ 48 ∷ 48 ∷ 48 ∷ []
 held_none = refl
 
 -- `-` beside every answer without a message
-pub text_none : (b : List ℕ) (r : Request) (n : ℕ)
-    → (delivery_text (delivery_of (gives Ignored)) b ≡ 45 ∷ []) × (delivery_text (delivery_of (gives (Accepted deliveries.Nothing r))) b ≡ 45 ∷ [])
+pub text_none : (b : List ℕ) (r : Option StatusRequest) (n : ℕ)
+    → (delivery_text (delivery_of (gives Ignored)) b ≡ 45 ∷ []) × (delivery_text (delivery_of (gives (Accepted None r))) b ≡ 45 ∷ [])
     × (delivery_text (delivery_of (refuses n)) b ≡ 45 ∷ [])
-unfolding delivery_text
 text_none b r n = (refl, refl, refl)
 
 -- `empty` for no octets
-pub text_empty : (m : SingleMessage) (r : Request) (b : List ℕ) → m.length ≡ 0 → delivery_text (delivery_of (gives (Accepted (deliveries.Message m) r))) b ≡ 101 ∷ 109 ∷ 112 ∷ 116 ∷ 121 ∷ []
-unfolding delivery_text octets_text
+pub text_empty : (m : SingleMessage) (r : Option StatusRequest) (b : List ℕ) → m.length ≡ 0 → delivery_text (delivery_of (gives (Accepted (Some m) r))) b ≡ 101 ∷ 109 ∷ 112 ∷ 116 ∷ 121 ∷ []
 text_empty m r b e = rw e
 
 -- the octets at the front of the buffer in hex
-pub text_message : (m : SingleMessage) (r : Request) (x : ℕ) (b : List ℕ) (n : ℕ) → m.length ≡ suc n → delivery_text (delivery_of (gives (Accepted (deliveries.Message m) r))) (x ∷ b) ≡ hex_of (x ∷ take n b)
-unfolding delivery_text octets_text
+pub text_message : (m : SingleMessage) (r : Option StatusRequest) (x : ℕ) (b : List ℕ) (n : ℕ) → m.length ≡ suc n → delivery_text (delivery_of (gives (Accepted (Some m) r))) (x ∷ b) ≡ encode_lower (x ∷ take n b)
 text_message m r x b n e = rw e
 
 -- ---- the last lines
 
 -- `cut` and its octets where some are left, nothing where none are
-pub cut_is : (k : ℕ) → cut_line (suc k) ≡ (99 ∷ 117 ∷ 116 ∷ 32 ∷ []) ++ decimal_of (suc k) ++ (10 ∷ [])
-unfolding cut_line
+pub cut_is : (k : ℕ) → cut_line (suc k) ≡ (99 ∷ 117 ∷ 116 ∷ 32 ∷ []) ++ decimal (suc k) ++ (10 ∷ [])
 cut_is k = refl
 
 pub cut_none : cut_line 0 ≡ []
-unfolding cut_line
 cut_none = refl
 
 -- then `messages` and how many
-pub last-is : (x : Session) (k : ℕ) → last_lines x k ≡ cut_line k ++ ((109 ∷ 101 ∷ 115 ∷ 115 ∷ 97 ∷ 103 ∷ 101 ∷ 115 ∷ 32 ∷ []) ++ decimal_of x.messages ++ (10 ∷ []))
-unfolding last_lines messages_line
+pub last-is : (x : Session) (k : ℕ) → last_lines x k ≡ cut_line k ++ ((109 ∷ 101 ∷ 115 ∷ 115 ∷ 97 ∷ 103 ∷ 101 ∷ 115 ∷ 32 ∷ []) ++ decimal x.messages ++ (10 ∷ []))
 last-is x k = refl
 
 -- ---- the input
@@ -159,7 +124,7 @@ pub listing_gives : (xs : List ℕ) (s : ArqReassembler) → open_of (take 9 xs)
     ≡ (102 ∷ 114 ∷ 97 ∷ 109 ∷ 101 ∷ 32 ∷ 97 ∷ 110 ∷ 115 ∷ 119 ∷ 101 ∷ 114 ∷ 32 ∷ 101 ∷ 99 ∷ 104 ∷ 111 ∷ 32 ∷ 109 ∷ 97 ∷ 112 ∷ 32 ∷ 116 ∷ 101 ∷ 120 ∷ 116 ∷ 10 ∷ [])
     ++ lines_of (new_session s) (frames_of (drop 9 xs))
     ++ last_lines (after_of (new_session s) (frames_of (drop 9 xs))) (length (drop 9 xs) % 14)
-unfolding listing_of
+unfolding listing_of rest_of
 listing_gives xs s e = ap (λ (o : Outcome ArqReassembler). listing_from o (drop 9 xs)) e
 
 -- ---- frames and messages in turn
@@ -168,12 +133,10 @@ listing_gives xs s e = ap (λ (o : Outcome ArqReassembler). listing_from o (drop
 pub frames_first : (a c : List ℕ) → length a ≡ 14 → frames_of (a ++ c) ≡ record { octets = a; buffer = replicate 255 0 } ∷ frames_of c
 frames_first a c e =
     let whole : length a % 14 ≡ 0 = omega arith in
-    let one : frames_of a ≡ record { octets = a; buffer = replicate 255 0 } ∷ [] =
-    ap (λ (n : ℕ). pushes_of n a) (let n : length a / 14 ≡ 1 = omega arith in n) ∙ ap (λ (f : List ℕ). push_with f ∷ []) (ap (λ (n : ℕ). take n a) (sym e) ∙ take-length a) in
-    frames_append a c whole ∙ ap (λ (l : List Push). l ++ frames_of c) one
+    frames_append a c whole ∙ ap (λ (l : List Push). l ++ frames_of c) (frames_one a e)
 
 pub frames-none : (c : List ℕ) → length c < 14 → frames_of c ≡ []
-frames-none c h = ap (λ (n : ℕ). pushes_of n c) (let n : length c / 14 ≡ 0 = omega arith in n)
+frames-none = frames_few
 
 -- as many as there are whole frames in the input
 pub frames_counted : (x : Session) (l : List Push) → (after_of x l).frames ≡ x.frames + length l
@@ -183,14 +146,14 @@ frames_counted x (p ∷ l) = omega (arith, frames_counted (step_of x p) l)
 -- an answer with a message counts one
 abbrev given : Outcome Reception → ℕ
 given (gives Ignored) = 0
-given (gives (Accepted deliveries.Nothing r)) = 0
-given (gives (Accepted (deliveries.Message m) r)) = 1
+given (gives (Accepted None r)) = 0
+given (gives (Accepted (Some m) r)) = 1
 given (refuses n) = 0
 
 counted_given : (o : Outcome Reception) → counted (delivery_of o) ≡ given o
 counted_given (gives Ignored) = refl
-counted_given (gives (Accepted deliveries.Nothing r)) = refl
-counted_given (gives (Accepted (deliveries.Message m) r)) = refl
+counted_given (gives (Accepted None r)) = refl
+counted_given (gives (Accepted (Some m) r)) = refl
 counted_given (refuses n) = refl
 
 module _ (s : ArqReassembler) where
@@ -212,29 +175,16 @@ module _ (s : ArqReassembler) where
 
   -- line after line: each says what its push comes to after those before it, and its number from 1
   pub lines_none : lines_of (new_session s) [] ≡ []
-  unfolding lines_of
   lines_none = refl
 
   pub lines_more : (l : List Push) (p : Push) → lines_of (new_session s) (l ++ p ∷ []) ≡ lines_of (new_session s) l ++ line_of (length l + 1) (answered l p)
-  unfolding lines_of
   lines_more l p =
       let n : (after_of (new_session s) l).frames + 1 ≡ length l + 1 = omega (arith, frames_counted (new_session s) l) in
       lines-append (new_session s) l (p ∷ [])
       ∙ ap (λ (t : List ℕ). lines_of (new_session s) l ++ t) (append-nil (line_of ((after_of (new_session s) l).frames + 1) (out_of (after_of (new_session s) l) p)) ∙ ap₂ line_of n (at_run l p))
 
--- ---- what a push leaves, and what is written
+-- ---- what a push leaves
 
 -- the session after a push: the receiver that it returned, a frame more, and a message more if one was delivered
 pub step-says : (x : Session) (p : Push) → let o = push_of x.receiver p.octets p.buffer in step_of x p ≡ record { receiver = o.receiver; frames = x.frames + 1; messages = x.messages + counted (delivery_of o.outcome) }
 step-says x p = refl
-
--- octet by octet from a place on
-pub written-says : (t : List ℕ) (i x : ℕ) (xs : List ℕ) → (written t i [] ≡ t) × (written t i (x ∷ xs) ≡ written (set t i x) (suc i) xs)
-unfolding written
-written-says t i x xs = (refl, refl)
-
--- the first line: `frame answer echo map text`, or `identity`
-pub first_says : (n : ℕ)
-    → (first_line (gives tt) ≡ 102 ∷ 114 ∷ 97 ∷ 109 ∷ 101 ∷ 32 ∷ 97 ∷ 110 ∷ 115 ∷ 119 ∷ 101 ∷ 114 ∷ 32 ∷ 101 ∷ 99 ∷ 104 ∷ 111 ∷ 32 ∷ 109 ∷ 97 ∷ 112 ∷ 32 ∷ 116 ∷ 101 ∷ 120 ∷ 116 ∷ 10 ∷ [])
-    × (first_line (refuses n) ≡ 105 ∷ 100 ∷ 101 ∷ 110 ∷ 116 ∷ 105 ∷ 116 ∷ 121 ∷ 10 ∷ [])
-first_says n = (refl, refl)

@@ -1,6 +1,6 @@
-pub mod Texts
-pub mod Lines
+pub mod Digits
 pub mod Opened
 pub mod Sessions
+pub mod Shown
 pub mod Exactly
 pub mod Samples

@@ -1,41 +1,41 @@
 // The last lines of a listing.
-ghost use Rattle.std.specs.Prelude.{◌+◌, ◌≤◌, length};
-ghost use Rattle.io.specs.Counts.{IsPrefixLen};
-ghost use Rattle.listing.specs.Text.{Wrote};
+ghost use Rattle.std.specs.Prelude.{◌≡◌, ◌++◌, ◌+◌, ◌≤◌};
+ghost use Rattle.arrayvec.specs.ArrayVec.{array_vec_len};
 ghost use Rattle.listing.specs.Line.{cut_line, messages_line};
 ghost use Rattle.listing.specs.Session.{last_lines};
 
 use super::Session;
-use super::text::{put_decimal, put_octet, put_word};
+use super::text::{put, put_decimal};
+use arrayvec::ArrayVec;
 
 // `cut` and how many octets the cut last frame has, if any.
-fn put_cut(text: &mut [u8], to: usize, cut: u64) -> usize
-    requires { to + 25 ≤ length text.old }
-    ensures { Wrote text.old text.new to result (cut_line cut) × (result ≤ to + 25) }
+fn put_cut<const N: usize>(text: &mut ArrayVec<u8, N>, cut: u64)
+    requires { array_vec_len text.old + 25 ≤ N }
+    ensures items { text.new.items ≡ text.old.items ++ cut_line cut }
+    ensures len { array_vec_len text.new ≤ array_vec_len text.old + 25 }
 {
-    if cut == 0 {
-        return to;
+    if cut > 0 {
+        put(text, b"cut ");
+        put_decimal(text, cut);
+        text.push(b'\n');
     }
-    let word = put_word(text, to, b"cut ");
-    let number = put_decimal(text, word, cut);
-    put_octet(text, number, b'\n')
 }
 
 // `messages` and how many were delivered.
-fn put_messages(text: &mut [u8], to: usize, messages: u64) -> usize
-    requires { to + 30 ≤ length text.old }
-    ensures { Wrote text.old text.new to result (messages_line messages) × (result ≤ to + 30) }
+fn put_messages<const N: usize>(text: &mut ArrayVec<u8, N>, messages: u64)
+    requires { array_vec_len text.old + 30 ≤ N }
+    ensures { text.new.items ≡ text.old.items ++ messages_line messages }
 {
-    let word = put_word(text, to, b"messages ");
-    let number = put_decimal(text, word, messages);
-    put_octet(text, number, b'\n')
+    put(text, b"messages ");
+    put_decimal(text, messages);
+    text.push(b'\n');
 }
 
 // Both.
-pub fn put_last(text: &mut [u8], session: Session, cut: u64) -> usize
-    requires { 55 ≤ length text.old }
-    ensures { Wrote text.old text.new 0 result (last_lines session cut) × IsPrefixLen result text.new }
+pub fn put_last<const N: usize>(text: &mut ArrayVec<u8, N>, session: Session, cut: u64)
+    requires { array_vec_len text.old + 55 ≤ N }
+    ensures { text.new.items ≡ text.old.items ++ last_lines session cut }
 {
-    let to = put_cut(text, 0, cut);
-    put_messages(text, to, session.messages)
+    put_cut(text, cut);
+    put_messages(text, session.messages);
 }

@@ -1,114 +1,101 @@
 // The listing that `arq-show` prints: a receiver of one identity, frames of 14 octets pushed to it in turn, a line for each.
 #![tactic(auto)]
 
-mod first;
 mod last;
 mod line;
 pub mod show;
 mod text;
 
-ghost use Rattle.std.specs.Prelude.{◌≡◌, ◌+◌, ◌*◌, ◌/◌, ◌≤◌, ◌<◌, length};
-ghost use Rattle.spach.specs.Answered.{answered};
-ghost use Rattle.receiver.specs.Receiver.{blank_receiver, made_answer};
-ghost use Rattle.listing.specs.Text.{Wrote};
-ghost use Rattle.listing.specs.Line.{line_of};
+ghost use Rattle.std.specs.Prelude.{◌≡◌, ◌++◌, ◌+◌, ◌*◌, ◌/◌, ◌≤◌, length};
+ghost use Rattle.spach.specs.Refusal.{number_of, by_number};
+ghost use Rattle.receiver.specs.Receiver.{new_of, push_of, status_answer};
+ghost use Rattle.receiver.specs.Demand3.{runs};
+ghost use Rattle.arrayvec.specs.ArrayVec.{array_vec_len};
 ghost use Rattle.field.specs.Bits.{bits_of, field};
-ghost use Rattle.listing.specs.Session.{open_of, Ready, push_with, frames_of, counted, out_of, step_of, ShowsAll};
+ghost use Rattle.listing.specs.Line.{line_of};
+ghost use Rattle.listing.specs.Session.{open_of, Ready, push_with, frames_of, out_of, step_of, after_of, lines_of, new_session};
 
-use rach::MobileIdentity;
-use receiver::{ArqReassembler, Delivery, Made};
-use spach::IdentityAnswer;
+use arrayvec::ArrayVec;
+use line::{delivery_of, put_line};
+use receiver::ArqReassembler;
+use spach::SpachError;
 
-// The receiver, and how many frames were pushed and messages delivered.
-#[derive(Clone, Copy)]
+// The receiver, and how many frames were pushed and messages delivered. That the receiver is one of the constructor's and
+// the counts fit is `Ready` in two contracts, no ghost field: `step_of` would then carry proofs.
+#[derive(Clone, Copy, Debug, PartialEq, Eq)]
 pub struct Session {
     pub receiver: ArqReassembler,
     pub frames: u64,
     pub messages: u64,
 }
 
-// The session after frames whose lines are written, and the place after them.
-#[derive(Clone, Copy)]
-pub struct Shown {
-    pub session: Session,
-    pub end: usize,
-}
-
 // The identity's value: octets 1 to 8, the upper first.
 fn value_of(octets: &[u8]) -> u64
-    requires { (9 ≤ length octets.now) × (length octets.now ≤ 4096) }
+    requires enough { 9 ≤ length octets.now }
+    requires placed { length octets.now ≤ 4096 }
     ensures { result ≡ field 8 64 (bits_of octets.now) }
 {
     let high = field::read_field(octets, 8, 32);
     high * 4294967296 + field::read_field(octets, 40, 32)
 }
 
-// A receiver for the identity in nine octets, type and value; a refusal 2 and a blank one where they are fewer or no
-// identity.
-pub fn open(octets: &[u8]) -> Made
+// A receiver for the identity in nine octets, type and value; a refusal 2 where they are fewer or no identity.
+#[tactic(auto, unfolding(crate::specs::Session::open_of))]
+pub fn open(octets: &[u8]) -> Result<ArqReassembler, SpachError>
     requires { length octets.now ≤ 4096 }
-    ensures { made_answer result ≡ answered blank_receiver (open_of octets.now) }
+    ensures { by_number number_of result ≡ open_of octets.now }
 {
     if octets.len() < 9 {
-        return ArqReassembler::try_new(MobileIdentity::Tmsi20(0));
+        return Err(SpachError::Identity);
     }
-    let answer = spach::accept_identity(octets[0], value_of(octets));
-    match answer {
-        IdentityAnswer::Identity(identity) => ArqReassembler::try_new(identity),
-        IdentityAnswer::Refused(_) => ArqReassembler::try_new(MobileIdentity::Tmsi20(0)),
-    }
+    let identity = spach::accept_identity(octets[0], value_of(octets))?;
+    ArqReassembler::try_new(identity)
 }
 
-fn count_of(delivery: Delivery) -> u64
-    ensures { (result ≡ counted delivery) × (result ≤ 1) }
-{
-    match delivery {
-        Delivery::Nothing => 0,
-        Delivery::Message(_) => 1,
+impl Session {
+    // Before the first frame.
+    pub fn new(receiver: ArqReassembler) -> Self
+        ensures { result ≡ new_session receiver }
+    {
+        Session {
+            receiver,
+            frames: 0,
+            messages: 0,
+        }
     }
-}
 
-// Pushes a frame with a buffer of its own, and writes its line. The longest has 556 octets: number 20, answer 10, echo 3,
-// map 8, message 510, four spaces and the newline; 600 are asked.
-pub fn show_frame(session: Session, octets: &[u8], text: &mut [u8], to: usize) -> Shown
-    requires { Ready session 1 × (to + 600 ≤ length text.old) }
-    ensures { (result.session ≡ step_of session (push_with octets.now)) × Wrote text.old text.new to result.end (line_of (session.frames + 1) (out_of session (push_with octets.now))) × (result.end ≤ to + 600) }
-{
-    let mut buffer = [0u8; 255];
-    let receiver = session.receiver;
-    let pushed = receiver.push(octets, &mut buffer);
-    let next = pushed.receiver;
-    let frames = session.frames + 1;
-    let end = line::put_line(text, to, frames, pushed, &buffer);
-    let answer = pushed.answer;
-    let messages = session.messages + count_of(line::delivery_of(answer));
-    Shown {
-        session: Session {
-            receiver: next,
-            frames: frames,
-            messages: messages,
-        },
-        end: end,
+    // Pushes a frame with a buffer of its own, and appends its line. The longest has 556 octets: number 20, answer 10,
+    // echo 3, map 8, message 510, four spaces and the newline; 600 are asked.
+    pub fn show_frame<const N: usize>(self, octets: &[u8], text: &mut ArrayVec<u8, N>) -> Self
+        requires ready { Ready self 1 }
+        requires room { array_vec_len text.old + 600 ≤ N }
+        ensures session { result ≡ step_of self (push_with octets.now) }
+        ensures items { text.new.items ≡ text.old.items ++ line_of (self.frames + 1) (out_of self (push_with octets.now)) }
+        ensures len { array_vec_len text.new ≤ array_vec_len text.old + 600 }
+    {
+        let mut buffer = [0u8; 255];
+        let (receiver, answer) = self.receiver.push(octets, &mut buffer);
+        let frames = self.frames + 1;
+        put_line(text, frames, receiver, answer, &buffer);
+        let delivered = delivery_of(answer).is_some();
+        Session {
+            receiver,
+            frames,
+            messages: self.messages + u64::from(delivered),
+        }
     }
-}
 
-// Pushes the frames of 14 octets in turn, and writes their lines from the front of the text on.
-pub fn show_frames(session: Session, octets: &[u8], text: &mut [u8]) -> Shown
-    requires { Ready session (length octets.now / 14) × (600 * (length octets.now / 14) ≤ length text.old) }
-    ensures { ShowsAll session (frames_of octets.now) text.old text.new result }
-{
-    let n = octets.len() / 14;
-    let mut i: usize = 0;
-    let mut shown = Shown {
-        session: session,
-        end: 0,
-    };
-    while i < n {
-        let before = shown.session;
-        let to = shown.end;
-        let at = 14 * i;
-        shown = show_frame(before, &octets[at..at + 14], text, to);
-        i += 1;
+    // Pushes the frames of 14 octets in turn, and appends their lines.
+    pub fn show_frames<const N: usize>(mut self, octets: &[u8], text: &mut ArrayVec<u8, N>) -> Self
+        requires ready { Ready self (length octets.now / 14) }
+        requires room { array_vec_len text.old + 600 * (length octets.now / 14) ≤ N }
+        ensures session { result ≡ after_of self (frames_of octets.now) }
+        ensures state { result.receiver ≡ runs new_of push_of status_answer self.receiver (frames_of octets.now) }
+        ensures items { text.new.items ≡ text.old.items ++ lines_of self (frames_of octets.now) }
+    {
+        for frame in octets.chunks_exact(14) {
+            self = self.show_frame(frame, text);
+        }
+        self
     }
-    shown
 }

@@ -1,154 +1,101 @@
 // Lists what a reader gives, a chunk at a time.
-ghost use Rattle.std.specs.Prelude.{◌≡◌, true, false, ◌≤◌, ◌<◌, length};
-ghost use Rattle.io.specs.Counts.{IsPrefixLen};
+ghost use Rattle.std.specs.Prelude.{◌≤◌, ◌<◌, length, OnErr, OnOk};
+ghost use Rattle.std.specs.Io.KnownBytes.{Consumes, IsAtEnd};
 ghost use Rattle.receiver.specs.Valid.{Valid};
-ghost use Rattle.listing.specs.Session.{new_session, Read as MayRead, Chunk, Chunks, Listed, ReadsAll};
+ghost use Rattle.listing.specs.Session.{new_session, rest_of, listing_of, Reads, ReadsAll, Prints};
 
 use super::Session;
-use super::first::put_first;
 use super::last::put_last;
-use reading::Got;
+use arrayvec::ArrayVec;
 use receiver::ArqReassembler;
-use spach::Verdict;
+use std::io;
 use std::io::{Read, Write};
 
-// What a chunk came to: the session, how many octets are left to read, how many of the chunk are a cut frame, whether the
-// input may go on, and whether it could not be read on.
-#[derive(Clone, Copy)]
-struct Turn {
-    pub session: Session,
-    pub left: u64,
-    pub cut: usize,
-    pub more: bool,
-    pub failed: bool,
-}
-
-fn lesser(a: u64, b: u64) -> u64
-    ensures { (result ≤ a) × (result ≤ b) }
-{
-    if a < b { a } else { b }
-}
-
 // Reads until the room is full, `left` octets are read, the input ends or a read fails.
-fn read_some<R: Read>(input: &mut R, room: &mut [u8], left: u64) -> Got
-    ensures { IsPrefixLen result.count room.new × (result.count ≤ left) × (result.failed ≡ true → result.count < length room.new) }
-{
-    let want = lesser(left, room.len() as u64) as usize;
-    reading::fill(input, &mut room[..want])
-}
-
-// A write that fails is passed over: whoever takes the lines misses them.
-fn say<W: Write>(output: &mut W, line: &[u8]) {
-    let _ = output.write_all(line);
-}
-
-fn say_failed<W: Write>(output: &mut W) {
-    say(output, b"file: standard input: cannot be read\n");
-}
-
-// Reads 64 frames, or what is left, and prints their lines.
-fn show_chunk<R: Read, W: Write>(input: &mut R, output: &mut W, session: Session, left: u64) -> Turn
-    requires { MayRead session left }
-    ensures { Chunk session left result.session result.left result.cut result.more × MayRead result.session result.left }
-{
-    let mut octets = [0u8; 896];
-    let got = read_some(input, &mut octets, left);
-    let n = got.count;
-    let mut text = [0u8; 38400];
-    let shown = super::show_frames(session, &octets[..n], &mut text);
-    let end = shown.end;
-    say(output, &text[..end]);
-    let next = shown.session;
-    Turn {
-        session: next,
-        left: left - n as u64,
-        cut: n % 14,
-        more: n == 896,
-        failed: got.failed,
-    }
-}
-
-// Chunk after chunk, until one is not full.
-fn show_chunks<R: Read, W: Write>(
+fn read_some<'a, R: Read>(
     input: &mut R,
-    output: &mut W,
-    receiver: ArqReassembler,
-    limit: u64,
-) -> Turn
-    requires { Valid receiver }
-    ensures { Chunks (new_session receiver) limit result.session result.left result.cut × (result.more ≡ false) }
+    room: &'a mut [u8],
+    left: u64,
+) -> (&'a [u8], io::Result<()>)
+    ensures inside { length result.0.now ≤ length room.old }
+    ensures most { length result.0.now ≤ left }
+    ensures short { OnErr result.1 (length result.0.now < length room.old) }
+    ensures bytes { Consumes (R.remaining input.old) (R.remaining input.new) result.0.now }
+    ensures end { OnOk result.1 (length result.0.now < length room.old → length result.0.now < left → IsAtEnd (R.remaining input.new)) }
 {
-    let mut t = Turn {
-        session: Session {
-            receiver: receiver,
-            frames: 0,
-            messages: 0,
-        },
-        left: limit,
-        cut: 0,
-        more: true,
-        failed: false,
-    };
-    while t.more {
-        let session = t.session;
-        t = show_chunk(input, output, session, t.left);
-    }
-    t
+    let most = left.min(room.len() as u64) as usize;
+    reading::fill(input, &mut room[..most])
 }
 
-// Prints the lines after the header. A listing that could not be read to its end says so in place of its last lines.
+// Where reading failed: that the listing does not go on says so itself.
+fn say_failed<W: Write>(output: &mut W) {
+    let _ = output.write_all(b"file: standard input: cannot be read\n");
+}
+
+// Prints the lines after the first, of 64 frames at a time. A listing that could not be read to its end says so in place of
+// its last lines; a write that fails is passed over until then.
 fn show_all<R: Read, W: Write>(
     input: &mut R,
     output: &mut W,
     receiver: ArqReassembler,
     limit: u64,
-) -> u64
+) -> (u64, io::Result<()>)
     requires { Valid receiver }
-    ensures { (result ≤ limit) × Listed (new_session receiver) limit result }
+    ensures reads { Reads limit result.0 (R.remaining input.old) (R.remaining input.new) }
+    ensures prints { OnOk result.1 (Prints (rest_of (new_session receiver)) limit (R.remaining input.old) (W.contents output.old) (W.contents output.new)) }
 {
-    let t = show_chunks(input, output, receiver, limit);
-    if t.failed {
-        say_failed(output);
-        return t.left;
+    let mut session = Session::new(receiver);
+    let mut left = limit;
+    let mut said = Ok(());
+    let mut room = [0u8; 896];
+    let mut text = ArrayVec::<u8, 38400>::new();
+    loop {
+        let (octets, read) = read_some(input, &mut room, left);
+        left -= octets.len() as u64;
+        text.clear();
+        session = session.show_frames(octets, &mut text);
+        said = said.and(output.write_all(&text));
+        if let Err(error) = read {
+            say_failed(output);
+            return (left, Err(error));
+        }
+        if octets.len() < 896 {
+            text.clear();
+            put_last(&mut text, session, octets.len() as u64 % 14);
+            return (left, said.and(output.write_all(&text)));
+        }
     }
-    let mut text = [0u8; 55];
-    let session = t.session;
-    let end = put_last(&mut text, session, t.cut as u64);
-    say(output, &text[..end]);
-    t.left
 }
 
-// Lists an input of at most `limit` octets, to its end. Answers how many of them were not read.
-pub fn show<R: Read, W: Write>(input: &mut R, output: &mut W, limit: u64) -> u64
-    ensures { (result ≤ limit) × ReadsAll limit result }
+// Lists an input of at most `limit` octets, to its end. Answers how many of them were not read, and whether all was read
+// and printed.
+pub fn show<R: Read, W: Write>(input: &mut R, output: &mut W, limit: u64) -> (u64, io::Result<()>)
+    ensures reads { ReadsAll limit result.0 (R.remaining input.old) (R.remaining input.new) }
+    ensures prints { OnOk result.1 (Prints listing_of limit (R.remaining input.old) (W.contents output.old) (W.contents output.new)) }
 {
-    let mut octets = [0u8; 9];
-    let got = read_some(input, &mut octets, limit);
-    let n = got.count;
-    let left = limit - n as u64;
-    if got.failed {
+    let mut room = [0u8; 9];
+    let (octets, read) = read_some(input, &mut room, limit);
+    let left = limit - octets.len() as u64;
+    if let Err(error) = read {
         say_failed(output);
-        return left;
+        return (left, Err(error));
     }
-    let made = super::open(&octets[..n]);
-    let verdict = made.verdict;
-    let mut text = [0u8; 27];
-    let end = put_first(&mut text, verdict);
-    say(output, &text[..end]);
-    if let Verdict::Refused(_) = verdict {
-        return left;
-    }
-    let receiver = made.receiver;
-    show_all(input, output, receiver, left)
+    let Ok(receiver) = super::open(octets) else {
+        return (left, output.write_all(b"identity\n"));
+    };
+    let said = output.write_all(b"frame answer echo map text\n");
+    let (left, listed) = show_all(input, output, receiver, left);
+    (left, said.and(listed))
 }
 
 // Reads on and prints nothing, until `left` octets are read or the input ends.
-pub fn skip<R: Read>(input: &mut R, left: u64) {
-    let mut rest = left;
+pub fn skip<R: Read>(input: &mut R, mut left: u64) {
     let mut room = [0u8; 64];
-    let mut n = read_some(input, &mut room, rest).count;
-    while n > 0 {
-        rest -= n as u64;
-        n = read_some(input, &mut room, rest).count;
+    loop {
+        let (octets, _) = read_some(input, &mut room, left);
+        if octets.is_empty() {
+            return;
+        }
+        left -= octets.len() as u64;
     }
 }

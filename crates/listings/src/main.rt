@@ -1,24 +1,16 @@
 // Lists the stored inputs on standard input: for each its length in two octets, then its octets.
 #![tactic(auto)]
 
-ghost use Rattle.std.specs.Prelude.{◌<◌};
-
 use std::io::{Read, Write};
-
-fn wide(x: u8) -> u64
-    ensures { result < 256 }
-{
-    x as u64
-}
 
 // Lists the next input. Answers whether there was one.
 fn list_next<R: Read, W: Write>(input: &mut R, output: &mut W) -> bool {
-    let mut length = [0u8; 2];
-    if reading::fill(input, &mut length).count < 2 {
+    let mut room = [0u8; 2];
+    let (&[high, low], _) = reading::fill(input, &mut room) else {
         return false;
-    }
-    let most = wide(length[0]) * 256 + wide(length[1]);
-    let left = listing::show::show(input, output, most);
+    };
+    let length = u16::from_be_bytes([high, low]);
+    let (left, _) = listing::show::show(input, output, u64::from(length));
     listing::show::skip(input, left);
     true
 }
@@ -26,8 +18,9 @@ fn list_next<R: Read, W: Write>(input: &mut R, output: &mut W) -> bool {
 fn main(rt: HostRuntime) {
     let mut input = rt.stdin();
     let mut output = rt.stdout();
-    let mut turns = u64::MAX;
-    while turns > 0 && list_next(&mut input, &mut output) {
-        turns -= 1;
+    for _ in 0..u64::MAX {
+        if !list_next(&mut input, &mut output) {
+            break;
+        }
     }
 }

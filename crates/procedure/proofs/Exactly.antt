@@ -6,6 +6,9 @@ use mathlib.Core.List.{List}
 use Prim.Native.Nat.{ℕ, ◌≤◌, ◌<◌, ◌^◌}
 use lib.ListN.{length}
 use borrow.Author.Tests.{lt-ltb, le-ltb, eq-eqb, ne_eqb}
+use Rattle.std.specs.Prelude.{Option, Some, None, is_some, option_map}
+use Rattle.receiver.specs.declared.SingleMessage.{SingleMessage}
+use Rattle.receiver.specs.declared.StatusRequest.{StatusRequest}
 use Rattle.token.specs.Token.{fewer_than, number_after}
 use Rattle.rach.specs.declared.MobileIdentity.{MobileIdentity}
 use Rattle.rach.specs.Identity.{type_of, value_of, width_of}
@@ -17,49 +20,43 @@ use Rattle.arq.specs.declared.ArqFrame.{ArqFrame}
 use Rattle.arq.specs.declared.ResponseMode.TheVariants.{Contention}
 use Rattle.arq.specs.Encode.{by_kind}
 use Rattle.arq.specs.Decode.{decode_of}
+use Rattle.receiver.specs.declared.transaction.Transaction.{Transaction}
 use Rattle.receiver.specs.declared.ArqReassembler.{ArqReassembler}
-use Rattle.receiver.specs.declared.Delivery.{Delivery}
-use Rattle.receiver.specs.declared.Request.{Request}
-use Rattle.receiver.specs.declared.Request.TheVariants as requests
 use Rattle.receiver.specs.declared.Reception.{Reception}
 use Rattle.receiver.specs.declared.Reception.TheVariants as receptions
 use Rattle.receiver.specs.Receiver as R
-use Rattle.receiver.specs.Receiver.{push_frame, complete_of}
+use Rattle.receiver.specs.Receiver.{push_frame, status_of, complete_of}
 use Rattle.receiver.proofs.Laws.{made_exactly, made_2_exactly}
-use Rattle.inactivity.specs.declared.ArqInactivity.{ArqInactivity}
-use Rattle.inactivity.specs.declared.State.TheVariants.{Idle, Waiting}
-use Rattle.inactivity.specs.declared.Turn.{Turn}
+use Rattle.inactivity.specs.declared.State.{State}
+use Rattle.inactivity.specs.declared.State.TheVariants.{Idle, Waiting, SendingUnsolicited, FinalWait}
 use Rattle.inactivity.specs.declared.InactivityAction.{InactivityAction}
 use Rattle.inactivity.specs.declared.InactivityAction.TheVariants as actions
 use Rattle.inactivity.specs.declared.StatusResult.{StatusResult}
 use Rattle.inactivity.specs.declared.StatusResult.TheVariants as results
 use Rattle.inactivity.specs.Inactivity as I
-use Rattle.inactivity.specs.Inactivity.{clocked, due_of, acts}
+use Rattle.inactivity.specs.Inactivity.{Timer, clocked, due_of, acts}
 use Rattle.inactivity.proofs.Laws.{goes_to, starts_anew, answers, Admits}
 use Rattle.procedure.specs.declared.StatusKind.{StatusKind}
 use Rattle.procedure.specs.declared.StatusKind.TheVariants.{Solicited, Unsolicited}
 use Rattle.procedure.specs.declared.StatusTransmission.{StatusTransmission}
-use Rattle.procedure.specs.declared.Transmission.{Transmission}
-use Rattle.procedure.specs.declared.Transmission.TheVariants as transmissions
 use Rattle.procedure.specs.declared.ReceiveEvent.TheVariants as receives
-use Rattle.procedure.specs.declared.TimerEvent.TheVariants.{None, SendStatus, Terminated}
+use Rattle.procedure.specs.declared.TimerEvent.TheVariants as timers
 use Rattle.procedure.specs.declared.SendEvent.{SendEvent}
 use Rattle.procedure.specs.declared.SendEvent.TheVariants as sends
-use Rattle.procedure.specs.declared.ArqProcedure.{ArqProcedure}
-use Rattle.procedure.specs.Procedure.{new_of, Out, with_timer, admits, says, reset_of, active_of, polled, receive_of, follows, due_at, advance_of, after_sent, sent_at, status_sent_of}
+use Rattle.procedure.specs.Procedure.{Procedure, Sound, new_of, Out, with_timer, admits, says, reset_of, active_of, polled, receive_of, sends_status, follows, due_at, advance_of, after_sent, sent_at, status_sent_of}
 use Rattle.procedure.specs.Parts.{timed, ends_unpolled, accepted, by_answer, decoded}
 use Rattle.procedure.proofs.Parts.{receive_parts}
 
 -- a receiver and a timer
-abbrev made : ArqReassembler → ArqInactivity → ArqProcedure
+abbrev made : ArqReassembler → Timer → Procedure
 made r t = record { receiver = r; inactivity = t }
 
 -- nothing is held, and the timer t starts anew at block b
-abbrev over : ArqReassembler → ArqInactivity → ℕ → ArqProcedure
+abbrev over : ArqReassembler → Timer → ℕ → Procedure
 over r t b = made (R.reset_of r) (starts_anew t b)
 
 -- an answer, and the procedure beside it
-abbrev tells : {A : Type 0} → A → ArqProcedure → After A ArqProcedure
+abbrev tells : {A : Type 0} → A → Procedure → After A Procedure
 tells a p = record { outcome = gives a; state = p }
 
 -- ---- the constructor
@@ -79,39 +76,39 @@ makes_2 i first h = ap (λ (o : Outcome ArqReassembler). and_then o (λ r. gives
 
 -- the timer t after an accepted frame at block b: a Begin starts it anew; while the message is not complete it waits from this block on,
 -- whatever its state was, and a pending status stays pending
-abbrev timer_after : FrameKind → (complete : Bool) → ArqInactivity → ℕ → ArqInactivity
+abbrev timer_after : FrameKind → (complete : Bool) → Timer → ℕ → Timer
 timer_after Begin true t b = starts_anew t b
 timer_after Begin false t b = goes_to (starts_anew t b) (Waiting b) b false
 timer_after Continue true t b = goes_to t t.state b t.unsolicited_pending
 timer_after Continue false t b = goes_to t (Waiting b) b t.unsolicited_pending
 
 -- the status that a polled frame asks for: under the timer's token, and the last one exactly if the message is complete
-abbrev asked : Request → ArqInactivity → (complete : Bool) → Transmission
-asked requests.Nothing t complete = transmissions.Nothing
-asked (requests.Status q) t complete = transmissions.Status (record { request = q; token = t.transaction; kind = Solicited; complete_at_poll = complete })
+abbrev asked : Option StatusRequest → Timer → (complete : Bool) → Option StatusTransmission
+asked None t complete = None
+asked (Some q) t complete = Some (record { request = q; token = t.transaction; kind = Solicited; complete_at_poll = complete })
 
 -- what is left: a complete message whose frame was not polled is over
-abbrev left : Request → (complete : Bool) → ArqReassembler → ArqInactivity → ℕ → ArqProcedure
-left requests.Nothing true s t b = over s t b
-left requests.Nothing false s t b = made s t
-left (requests.Status q) complete s t b = made s t
+abbrev left : Option StatusRequest → (complete : Bool) → ArqReassembler → Timer → ℕ → Procedure
+left None true s t b = over s t b
+left None false s t b = made s t
+left (Some q) complete s t b = made s t
 
 -- 18, 16 and 17 let a receive at block b with so much room through
-pub record Through (t : ArqInactivity) (b room : ℕ) : Type 0 where
+pub record Through (t : Timer) (b room : ℕ) : Type 0 where
   pub tokens : fewer_than 4 t.next_token ≡ false
   pub enough : 255 ≤ room
   pub later : t.last_block ≤ b
 
-module _ (p : ArqProcedure) (block : ℕ) (xs b : List ℕ) where
-  abbrev timer : ArqInactivity
+module _ (p : Procedure) (block : ℕ) (xs b : List ℕ) where
+  abbrev timer : Timer
   timer = p.inactivity
 
   -- the clock moved, and nothing else
-  abbrev moved : ArqProcedure
+  abbrev moved : Procedure
   moved = made p.receiver (goes_to timer timer.state block timer.unsolicited_pending)
 
   -- refused by a number, with a procedure and the buffer as it was
-  abbrev stops : ℕ → ArqProcedure → Out
+  abbrev stops : ℕ → Procedure → Out
   stops n q = record { outcome = refuses n; procedure = q; buffer = b }
 
   pub receive_18 : fewer_than 4 timer.next_token ≡ true → receive_of p block xs b ≡ stops 18 p
@@ -150,14 +147,14 @@ module _ (p : ArqProcedure) (block : ℕ) (xs b : List ℕ) where
       receive_ignores e = heard_by e
 
       -- one that it accepts: message, status, receiver and buffer are the push's; the timer as above
-      pub receive_accepts : (m : Delivery) (r : Request) → pushed.outcome ≡ gives (receptions.Accepted m r)
+      pub receive_accepts : (m : Option SingleMessage) (r : Option StatusRequest) → pushed.outcome ≡ gives (receptions.Accepted m r)
           → let complete = complete_of pushed.receiver in let t = timer_after f.kind complete timer block in
           receive_of p block xs b ≡ record { outcome = gives (receives.Accepted m (asked r t complete)); procedure = left r complete pushed.receiver t block; buffer = pushed.buffer }
       unfolding accepted
       receive_accepts m r e = heard_by e ∙ by f.kind (complete_of pushed.receiver) r
         where
           -- the definition at the moved clock, by kind, completeness and polling
-          by : (k : FrameKind) (complete : Bool) (r : Request)
+          by : (k : FrameKind) (complete : Bool) (r : Option StatusRequest)
               → ◌≡◌ {A = Out} (record {
                 outcome = gives (receives.Accepted m (polled r (timed (by_kind k true false) complete (clocked timer block)) complete));
                 procedure = ends_unpolled r complete (made pushed.receiver (timed (by_kind k true false) complete (clocked timer block)));
@@ -168,19 +165,19 @@ module _ (p : ArqProcedure) (block : ℕ) (xs b : List ℕ) where
                 procedure = left r complete pushed.receiver (timer_after k complete timer block) block;
                 buffer = pushed.buffer;
               })
-          by Begin true requests.Nothing = refl
-          by Begin true (requests.Status q) = refl
-          by Begin false requests.Nothing = refl
-          by Begin false (requests.Status q) = refl
-          by Continue true requests.Nothing = refl
-          by Continue true (requests.Status q) = refl
-          by Continue false requests.Nothing = refl
-          by Continue false (requests.Status q) = refl
+          by Begin true None = refl
+          by Begin true (Some q) = refl
+          by Begin false None = refl
+          by Begin false (Some q) = refl
+          by Continue true None = refl
+          by Continue true (Some q) = refl
+          by Continue false None = refl
+          by Continue false (Some q) = refl
 
 -- ---- advance
 
-module _ (p : ArqProcedure) (b : ℕ) where
-  abbrev before : ArqInactivity
+module _ (p : Procedure) (b : ℕ) where
+  abbrev before : Timer
   before = p.inactivity
 
   pub advance_18 : fewer_than 4 before.next_token ≡ true → advance_of p b ≡ record { outcome = refuses 18; state = p }
@@ -192,17 +189,17 @@ module _ (p : ArqProcedure) (b : ℕ) where
   advance_17 e l = rw (e, lt-ltb b before.last_block l)
 
   module _ (a : Admits before b) where
-    admits_on : {A : Type 0} (f : ArqProcedure → After A ArqProcedure) → onward p (admits p b) f ≡ f (with_timer p (clocked before b))
+    admits_on : {A : Type 0} (f : Procedure → After A Procedure) → onward p (admits p b) f ≡ f (with_timer p (clocked before b))
     admits_on f = rw (a.tokens, le-ltb b before.last_block a.later)
 
     -- by whether the message is complete
     due_by : {z : Bool} → complete_of p.receiver ≡ z
-        → advance_of p b ≡ (let d = due_of (clocked before b) in cond z (says None (with_timer p (clocked before b))) (follows d.action (made p.receiver d.timer)))
+        → advance_of p b ≡ (let d = due_of (clocked before b) in cond z (says timers.None (with_timer p (clocked before b))) (follows d.1 (made p.receiver d.0)))
     unfolding advance_of
-    due_by {z} c = admits_on due_at ∙ ap (λ (y : Bool). let d = due_of (clocked before b) in cond y (says None (with_timer p (clocked before b))) (follows d.action (made p.receiver d.timer))) c
+    due_by {z} c = admits_on due_at ∙ ap (λ (y : Bool). let d = due_of (clocked before b) in cond y (says timers.None (with_timer p (clocked before b))) (follows d.1 (made p.receiver d.0))) c
 
     -- a complete message waits for its status alone: None for ever, whatever the timer's state
-    pub advance_complete : complete_of p.receiver ≡ true → advance_of p b ≡ tells None (made p.receiver (goes_to before before.state b before.unsolicited_pending))
+    pub advance_complete : complete_of p.receiver ≡ true → advance_of p b ≡ tells timers.None (made p.receiver (goes_to before before.state b before.unsolicited_pending))
     advance_complete c = due_by c
 
     timer_due : I.advance_of before b ≡ acts (due_of (clocked before b))
@@ -210,40 +207,54 @@ module _ (p : ArqProcedure) (b : ℕ) where
     timer_due = rw (a.tokens, le-ltb b before.last_block a.later)
 
     -- else what the timer's advance comes to
-    module _ (c : complete_of p.receiver ≡ false) (u : ArqInactivity) where
+    module _ (c : complete_of p.receiver ≡ false) (u : Timer) where
       follow : (x : InactivityAction) → I.advance_of before b ≡ answers x u → advance_of p b ≡ follows x (made p.receiver u)
       follow x e =
-          let d : Turn = due_of (clocked before b) in
+          let d : Timer × InactivityAction = due_of (clocked before b) in
           let v : acts d ≡ answers x u = sym timer_due ∙ e in
-          let j : d.action ≡ x = gives_same (ap (λ (o : After InactivityAction ArqInactivity). o.outcome) v) in
-          let k : d.timer ≡ u = ap (λ (o : After InactivityAction ArqInactivity). o.state) v in
+          let j : d.1 ≡ x = gives_same (ap (λ (o : After InactivityAction Timer). o.outcome) v) in
+          let k : d.0 ≡ u = ap (λ (o : After InactivityAction Timer). o.state) v in
           due_by c
-          ∙ ap (λ (z : InactivityAction). follows z (made p.receiver d.timer)) j
-          ∙ ap (λ (z : ArqInactivity). follows x (made p.receiver z)) k
+          ∙ ap (λ (z : InactivityAction). follows z (made p.receiver d.0)) j
+          ∙ ap (λ (z : Timer). follows x (made p.receiver z)) k
 
-      pub advance_none : I.advance_of before b ≡ answers actions.None u → advance_of p b ≡ tells None (made p.receiver u)
+      pub advance_none : I.advance_of before b ≡ answers actions.None u → advance_of p b ≡ tells timers.None (made p.receiver u)
       advance_none e = follow actions.None e
 
       -- by contention, with the echo and the map that are held, under the present token
-      pub advance_asks : I.advance_of before b ≡ answers actions.RequestUnsolicitedStatus u
+      pub advance_asks : (t : Transaction) → p.receiver.transaction ≡ Some t → I.advance_of before b ≡ answers actions.RequestUnsolicitedStatus u
           → advance_of p b
-          ≡ tells (SendStatus (record {
-            request = record { status = record { partial_echo = p.receiver.transaction.partial_echo; received_frames = p.receiver.received_frames }; response_mode = Contention };
+          ≡ tells (timers.SendStatus (record {
+            request = record { status = record { partial_echo = t.partial_echo; received_frames = t.received_frames }; response_mode = Contention };
             token = u.transaction;
             kind = Unsolicited;
             complete_at_poll = false;
           }))
           (made p.receiver u)
-      advance_asks e = follow actions.RequestUnsolicitedStatus e
+      advance_asks t h e = follow actions.RequestUnsolicitedStatus e ∙ ap (λ (o : Option Transaction). says (sends_status (made p.receiver u) (option_map status_of o)) (made p.receiver u)) h
+
+      -- and a transaction is held wherever the timer asks for one
+      pub asks_held : Sound p → I.advance_of before b ≡ answers actions.RequestUnsolicitedStatus u → (t : Transaction) × (p.receiver.transaction ≡ Some t)
+      asks_held s e = there p.receiver.transaction (s.armed (armed before.state refl (sym timer_due ∙ e)))
+        where
+          armed : (k : State) → before.state ≡ k → acts (I.due k (clocked before b)) ≡ answers actions.RequestUnsolicitedStatus u → I.is_idle k ≡ false
+          armed Idle z v = let w : actions.None ≡ actions.RequestUnsolicitedStatus = gives_same (ap (λ (o : After InactivityAction Timer). o.outcome) v) in cc
+          armed (Waiting since) z v = refl
+          armed SendingUnsolicited z v = refl
+          armed (FinalWait since) z v = refl
+
+          there : (o : Option Transaction) → is_some o ≡ true → (t : Transaction) × (o ≡ Some t)
+          there (Some t) z = (t, refl)
+          there None z = cc
 
       -- the end: nothing is held, and the timer starts anew once more
-      pub advance_ends : I.advance_of before b ≡ answers actions.Terminate u → advance_of p b ≡ tells Terminated (over p.receiver u u.last_block)
+      pub advance_ends : I.advance_of before b ≡ answers actions.Terminate u → advance_of p b ≡ tells timers.Terminated (over p.receiver u u.last_block)
       advance_ends e = follow actions.Terminate e
 
 -- ---- status_sent
 
-module _ (p : ArqProcedure) (b : ℕ) (x : StatusTransmission) (r : StatusResult) where
-  abbrev held : ArqInactivity
+module _ (p : Procedure) (b : ℕ) (x : StatusTransmission) (r : StatusResult) where
+  abbrev held : Timer
   held = p.inactivity
 
   -- a foreign token is Ignored before all
@@ -274,7 +285,7 @@ module _ (p : ArqProcedure) (b : ℕ) (x : StatusTransmission) (r : StatusResult
       sent_failed e = by_result e
 
       -- the last one ends it too
-      abbrev sent : Bool → After SendEvent ArqProcedure
+      abbrev sent : Bool → After SendEvent Procedure
       sent last = cond last (says sends.Complete (over p.receiver held b)) (says sends.Pending (with_timer p (after_sent x.kind (clocked held b))))
 
       pub sent_complete : r ≡ results.Sent → x.complete_at_poll ≡ true → status_sent_of p b x r ≡ tells sends.Complete (over p.receiver held b)
@@ -294,21 +305,21 @@ module _ (p : ArqProcedure) (b : ℕ) (x : StatusTransmission) (r : StatusResult
 
       pub sent_solicited : r ≡ results.Sent → x.complete_at_poll ≡ false → x.kind ≡ Solicited
           → status_sent_of p b x r ≡ tells sends.Pending (made p.receiver (I.solicited_of held x.token b results.Sent).state)
-      sent_solicited e c k = pending_by e c k ∙ ap (λ (o : After InactivityAction ArqInactivity). tells sends.Pending (made p.receiver o.state)) (sym timer_solicited)
+      sent_solicited e c k = pending_by e c k ∙ ap (λ (o : After InactivityAction Timer). tells sends.Pending (made p.receiver o.state)) (sym timer_solicited)
 
       pub sent_unsolicited : r ≡ results.Sent → x.complete_at_poll ≡ false → x.kind ≡ Unsolicited
           → status_sent_of p b x r ≡ tells sends.Pending (made p.receiver (I.unsolicited_of held x.token b results.Sent).state)
-      sent_unsolicited e c k = pending_by e c k ∙ ap (λ (o : After InactivityAction ArqInactivity). tells sends.Pending (made p.receiver o.state)) (sym timer_unsolicited)
+      sent_unsolicited e c k = pending_by e c k ∙ ap (λ (o : After InactivityAction Timer). tells sends.Pending (made p.receiver o.state)) (sym timer_unsolicited)
 
 -- ---- active
 
 -- exactly while a transaction is held, whatever the timer's state
-pub active_exactly : (p : ArqProcedure) → active_of p ≡ p.receiver.transaction.held
+pub active_exactly : (p : Procedure) → active_of p ≡ is_some p.receiver.transaction
 active_exactly p = refl
 
 -- ---- reset
 
-module _ (p : ArqProcedure) where
+module _ (p : Procedure) where
   pub reset_ends : fewer_than 4 p.inactivity.next_token ≡ false → reset_of p ≡ tells tt (over p.receiver p.inactivity p.inactivity.last_block)
   unfolding reset_of
   reset_ends e = rw e

@@ -1,6 +1,5 @@
 pub mod Apart
 pub mod CallCases
-pub mod Calls
 pub mod Exactly
 pub mod History
 pub mod Invariant

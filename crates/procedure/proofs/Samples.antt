@@ -4,9 +4,9 @@ use mathlib.Core.Path.{◌≡◌, refl}
 use mathlib.Core.Bool.{Bool, true, false}
 use mathlib.Core.List.{List, [], ◌∷◌, ◌++◌}
 use Prim.Native.Nat.{ℕ, ◌+◌, ◌-◌}
-use native.Mathlib.Omega.{arith}
 use lib.Count.{ones, ones_in}
 use lib.ListN.{replicate}
+use Rattle.std.specs.Prelude.{Option, Some, None}
 use Rattle.token.specs.Token.{stop}
 use Rattle.field.specs.Bits.{bits, value, bits_of, octets, field}
 use Rattle.field.specs.Layout.{layout, up_to, any_set}
@@ -23,24 +23,21 @@ use Rattle.arq.specs.Frame.{packed, begin_frame, continue_frame}
 use Rattle.arq.specs.Encode.{encode_of}
 use Rattle.arq.specs.Decode.{decode_of}
 use Rattle.arq.specs.Cut.{cut_frame}
-use Rattle.receiver.specs.declared.Delivery.TheVariants as deliveries
+use Rattle.receiver.specs.declared.ArqStatus.{ArqStatus}
 use Rattle.receiver.specs.Receiver as R
-use Rattle.receiver.specs.Receiver.{slot_at, put_slot, gathered, assembled, finish, push_continue, push_frame}
+use Rattle.receiver.specs.Receiver.{status_answer, gathered, assembled, finish, continued, push_frame}
 use Rattle.inactivity.specs.declared.StatusResult.TheVariants as results
 use Rattle.inactivity.specs.declared.State.{State}
 use Rattle.inactivity.specs.declared.State.TheVariants.{Idle, Waiting, SendingUnsolicited, FinalWait}
-use Rattle.inactivity.specs.declared.ArqInactivity.{ArqInactivity}
 use Rattle.inactivity.specs.Inactivity as I
+use Rattle.inactivity.specs.Inactivity.{Timer}
 use Rattle.procedure.specs.declared.StatusKind.TheVariants.{Solicited}
 use Rattle.procedure.specs.declared.StatusTransmission.{StatusTransmission}
-use Rattle.procedure.specs.declared.Transmission.{Transmission}
-use Rattle.procedure.specs.declared.Transmission.TheVariants as transmissions
 use Rattle.procedure.specs.declared.ReceiveEvent.{ReceiveEvent}
 use Rattle.procedure.specs.declared.ReceiveEvent.TheVariants as receives
-use Rattle.procedure.specs.declared.TimerEvent.TheVariants.{None, SendStatus, Terminated}
+use Rattle.procedure.specs.declared.TimerEvent.TheVariants as timers
 use Rattle.procedure.specs.declared.SendEvent.TheVariants as sends
-use Rattle.procedure.specs.declared.ArqProcedure.{ArqProcedure}
-use Rattle.procedure.specs.Procedure.{new_of, blank_procedure, says, reset_of, active_of, receive_of, unsolicited, advance_of, status_sent_of}
+use Rattle.procedure.specs.Procedure.{Procedure, new_of, says, reset_of, active_of, receive_of, unsolicited as unsolicited_under, advance_of, status_sent_of}
 use Rattle.procedure.specs.Parts.{accepted}
 use Rattle.procedure.specs.History.{receive, advance, status_sent, reset, runs, Each, present, Pending, ReportedSent}
 
@@ -93,34 +90,42 @@ status k map complete = record {
   complete_at_poll = complete;
 }
 
-abbrev status_in : Outcome ReceiveEvent → Transmission
-status_in (gives receives.Ignored) = transmissions.Nothing
+abbrev status_in : Outcome ReceiveEvent → Option StatusTransmission
+status_in (gives receives.Ignored) = None
 status_in (gives (receives.Accepted m x)) = x
-status_in (refuses n) = transmissions.Nothing
+status_in (refuses n) = None
+
+-- the unsolicited status of a procedure: echo and map that it holds
+abbrev held : Option ArqStatus → ArqStatus
+held None = record { partial_echo = 0; received_frames = 0 }
+held (Some s) = s
+
+abbrev unsolicited : Procedure → StatusTransmission
+unsolicited p = unsolicited_under p (held (status_answer p.receiver))
 
 -- a fresh procedure whose first token is n
-abbrev fresh : ℕ → ArqProcedure
+abbrev fresh : ℕ → Procedure
 fresh n = record { receiver = R.fresh identity; inactivity = I.new_of n }
 
 -- the Begin at block 100; the status asked for at 132; sent at 150
-abbrev after_begin : ArqProcedure
+abbrev after_begin : Procedure
 after_begin = runs (fresh 7) (receive 100 (frame seven 0) room ∷ [])
 
-abbrev asked : ArqProcedure
+abbrev asked : Procedure
 asked = runs after_begin (advance 132 ∷ [])
 
-abbrev told : ArqProcedure
+abbrev told : Procedure
 told = runs asked (status_sent 150 (unsolicited asked) results.Sent ∷ [])
 
 -- the order of twenty: its first Continue comes while the status is pending, and takes the timer back to waiting
-abbrev longer : ArqProcedure
+abbrev longer : Procedure
 longer = runs (fresh 7) (receive 100 (frame twenty 0) room ∷ [])
 
-abbrev back : ArqProcedure
+abbrev back : Procedure
 back = runs longer (advance 132 ∷ receive 140 (frame twenty 1) room ∷ [])
 
 -- complete by a polled Continue: it waits for its status
-abbrev whole : ArqProcedure
+abbrev whole : Procedure
 whole = runs after_begin (receive 101 (polled seven 1) room ∷ [])
 
 -- the Begin of an order to another
@@ -130,26 +135,26 @@ foreign = octets_in (encode_of (cut_frame header (Tmsi20 2) seven 0))
 -- by the timer: 31 and 32 blocks, the second wait, what ends the transaction, and its token numbers
 pub settled : (new_of identity 7 ≡ gives (fresh 7))
     × ((present after_begin).0 ≡ 8)
-    × ((advance_of after_begin 131).outcome ≡ gives None)
-    × ((advance_of after_begin 132).outcome ≡ gives (SendStatus (unsolicited asked)))
+    × ((advance_of after_begin 131).outcome ≡ gives timers.None)
+    × ((advance_of after_begin 132).outcome ≡ gives (timers.SendStatus (unsolicited asked)))
     × ((unsolicited asked).request.status.partial_echo ≡ 5)
     × ((unsolicited asked).request.response_mode ≡ Contention)
     × ((unsolicited asked).token.0 ≡ 8)
     × ((status_sent_of asked 150 (unsolicited asked) results.Sent).outcome ≡ gives sends.Pending)
-    × ((advance_of told 181).outcome ≡ gives None)
-    × ((advance_of told 182).outcome ≡ gives Terminated)
+    × ((advance_of told 181).outcome ≡ gives timers.None)
+    × ((advance_of told 182).outcome ≡ gives timers.Terminated)
     × ((present (runs told (advance 182 ∷ []))).0 ≡ 10)
     × (active_of (runs told (advance 182 ∷ [])) ≡ false)
     × (status_sent_of (runs told (advance 182 ∷ [])) 0 (unsolicited asked) results.Failed ≡ says sends.Ignored (runs told (advance 182 ∷ [])))
-    × ((advance_of (runs longer (receive 120 (frame twenty 1) room ∷ [])) 151).outcome ≡ gives None)
-    × ((advance_of back 900).outcome ≡ gives None)
-    × ((advance_of (runs back (status_sent 150 (unsolicited back) results.Sent ∷ [])) 181).outcome ≡ gives None)
-    × ((advance_of (runs back (status_sent 150 (unsolicited back) results.Sent ∷ [])) 182).outcome ≡ gives (SendStatus (unsolicited back)))
+    × ((advance_of (runs longer (receive 120 (frame twenty 1) room ∷ [])) 151).outcome ≡ gives timers.None)
+    × ((advance_of back 900).outcome ≡ gives timers.None)
+    × ((advance_of (runs back (status_sent 150 (unsolicited back) results.Sent ∷ [])) 181).outcome ≡ gives timers.None)
+    × ((advance_of (runs back (status_sent 150 (unsolicited back) results.Sent ∷ [])) 182).outcome ≡ gives (timers.SendStatus (unsolicited back)))
     × (active_of (runs after_begin (status_sent 102 (status 8 0 false) results.Failed ∷ [])) ≡ false)
     × ((present (runs after_begin (status_sent 102 (status 8 0 false) results.Failed ∷ []))).0 ≡ 9)
     × (active_of (runs after_begin (reset ∷ [])) ≡ false)
     × ((present (runs after_begin (reset ∷ []))).0 ≡ 9)
-unfolding new_of R.new_of runs receive_of accepted advance_of status_sent_of reset_of push_frame push_continue finish assembled gathered slot_at put_slot same ones ones_in decode_of header_a_at address_at bits_of bits value octets field up_to layout any_set encode_of begin_frame continue_frame packed encodable in_range
+unfolding new_of R.new_of runs receive_of accepted advance_of status_sent_of reset_of push_frame finish assembled gathered continued same ones ones_in decode_of header_a_at address_at bits_of bits value octets field up_to layout any_set encode_of begin_frame continue_frame packed encodable in_range
 settled = (refl, refl, refl, refl, refl, refl, refl, refl, refl, refl, refl, refl, refl, refl, refl, refl, refl, refl, refl, refl, refl)
 
 -- by the frames: messages, polls, refusals with the clock moved, the last four tokens
@@ -157,10 +162,10 @@ pub received : ((receive_of after_begin 101 (frame seven 1) room).buffer ≡ sev
     × ((present (runs after_begin (receive 101 (frame seven 1) room ∷ []))).0 ≡ 9)
     × (active_of (runs after_begin (receive 101 (frame seven 1) room ∷ [])) ≡ false)
     × ((present (runs (fresh 7) (receive 100 (frame (65 ∷ []) 0) room ∷ []))).0 ≡ 9)
-    × ((receive_of (fresh 7) 100 (polled seven 0) room).outcome ≡ gives (receives.Accepted deliveries.Nothing (transmissions.Status (status 8 0 false))))
-    × ((receive_of longer 101 (polled twenty 1) room).outcome ≡ gives (receives.Accepted deliveries.Nothing (transmissions.Status (status 8 1 false))))
-    × (status_in (receive_of after_begin 101 (polled seven 1) room).outcome ≡ transmissions.Status (status 8 1 true))
-    × ((advance_of whole 900).outcome ≡ gives None)
+    × ((receive_of (fresh 7) 100 (polled seven 0) room).outcome ≡ gives (receives.Accepted None (Some (status 8 0 false))))
+    × ((receive_of longer 101 (polled twenty 1) room).outcome ≡ gives (receives.Accepted None (Some (status 8 1 false))))
+    × (status_in (receive_of after_begin 101 (polled seven 1) room).outcome ≡ Some (status 8 1 true))
+    × ((advance_of whole 900).outcome ≡ gives timers.None)
     × (active_of whole ≡ true)
     × ((status_sent_of whole 102 (status 8 1 true) results.Sent).outcome ≡ gives sends.Complete)
     × (active_of (runs whole (status_sent 102 (status 8 1 true) results.Sent ∷ [])) ≡ false)
@@ -174,7 +179,7 @@ pub received : ((receive_of after_begin 101 (frame seven 1) room).buffer ≡ sev
     × ((receive_of (fresh (stop - 4)) 100 (frame (65 ∷ []) 0) []).outcome ≡ refuses 18)
     × ((reset_of (fresh (stop - 5))).outcome ≡ gives tt)
     × ((reset_of (fresh (stop - 4))).outcome ≡ refuses 18)
-unfolding runs receive_of accepted advance_of status_sent_of reset_of push_frame push_continue finish assembled gathered slot_at put_slot same ones ones_in decode_of header_a_at address_at bits_of bits value octets field up_to layout any_set encode_of begin_frame continue_frame packed encodable in_range
+unfolding runs receive_of accepted advance_of status_sent_of reset_of push_frame finish assembled gathered continued same ones ones_in decode_of header_a_at address_at bits_of bits value octets field up_to layout any_set encode_of begin_frame continue_frame packed encodable in_range
 received = (refl, refl, refl, refl, refl, refl, refl, refl, refl, refl, refl, refl, refl, refl, refl, refl, refl, refl, refl, refl, refl)
 
 -- by the wait: it begins anew only with a frame that is accepted and leaves the message incomplete, and with a status that was sent
@@ -190,32 +195,32 @@ pub waited : (whole.inactivity.state ≡ Waiting 100)
     × ((status_sent_of after_begin 120 (status 8 0 false) results.Sent).outcome ≡ gives sends.Pending)
     × ((status_sent_of after_begin 120 (status 8 0 false) results.Sent).state.inactivity.state ≡ Waiting 120)
     × ((status_sent_of after_begin 120 (status 8 0 false) results.Failed).outcome ≡ gives sends.Failed)
-unfolding runs receive_of accepted advance_of status_sent_of push_frame push_continue finish assembled gathered slot_at put_slot same ones ones_in decode_of header_a_at address_at bits_of bits value octets field up_to layout any_set encode_of begin_frame continue_frame packed encodable in_range
+unfolding runs receive_of accepted advance_of status_sent_of push_frame finish assembled gathered continued same ones ones_in decode_of header_a_at address_at bits_of bits value octets field up_to layout any_set encode_of begin_frame continue_frame packed encodable in_range
 waited = (refl, refl, refl, refl, refl, refl, refl, refl, refl, refl, refl, refl)
 
 -- a timer in a state at block b, under a token; an unsolicited status is pending or not
-abbrev timer : State → ℕ → Bool → ℕ → ArqInactivity
+abbrev timer : State → ℕ → Bool → ℕ → Timer
 timer k b pending t = record { state = k; last_block = b; unsolicited_pending = pending; transaction = record { 0 = t }; next_token = t + 1 }
 
 -- the order of twenty in its final wait, with no Continue and with the first; whole there, by the polled second
-abbrev waiting : ArqProcedure
+abbrev waiting : Procedure
 waiting = runs longer (advance 132 ∷ status_sent 150 (unsolicited (runs longer (advance 132 ∷ []))) results.Sent ∷ [])
 
-abbrev half : ArqProcedure
+abbrev half : Procedure
 half = runs longer (receive 101 (frame twenty 1) room ∷ advance 133 ∷ status_sent 150 (unsolicited (runs longer (advance 133 ∷ []))) results.Sent ∷ [])
 
-abbrev late : ArqProcedure
+abbrev late : Procedure
 late = runs half (receive 160 (polled twenty 2) room ∷ [])
 
 -- whole while a status is being sent
-abbrev sending : ArqProcedure
+abbrev sending : Procedure
 sending = runs asked (receive 140 (polled seven 1) room ∷ [])
 
 -- every state is visited by every call; each is the Rust's answer to the same calls
 pub visited : (waiting.inactivity ≡ timer (FinalWait 150) 150 false 8)
     × ((receive_of waiting 160 (frame twenty 1) room).procedure.inactivity ≡ timer (Waiting 160) 160 false 8)
     × ((receive_of half 160 (frame twenty 1) room).procedure.inactivity ≡ timer (Waiting 160) 160 false 8)
-    × ((receive_of half 160 (polled twenty 1) room).outcome ≡ gives (receives.Accepted deliveries.Nothing (transmissions.Status (status 8 1 false))))
+    × ((receive_of half 160 (polled twenty 1) room).outcome ≡ gives (receives.Accepted None (Some (status 8 1 false))))
     × ((receive_of half 160 (frame twenty 0) room).procedure.inactivity ≡ timer (Waiting 160) 160 false 9)
     × ((receive_of half 160 foreign room).procedure.inactivity ≡ timer (FinalWait 150) 160 false 8)
     × ((receive_of half 160 (frame seven 1) room).outcome ≡ refuses 14)
@@ -224,10 +229,10 @@ pub visited : (waiting.inactivity ≡ timer (FinalWait 150) 150 false 8)
     × ((receive_of half 160 (frame twenty 2) room).procedure.inactivity ≡ timer Idle 160 false 9)
     × (late.inactivity ≡ timer (FinalWait 150) 160 false 8)
     × (active_of late ≡ true)
-    × ((advance_of late 900).outcome ≡ gives None)
+    × ((advance_of late 900).outcome ≡ gives timers.None)
     × ((advance_of late 900).state.inactivity ≡ timer (FinalWait 150) 900 false 8)
-    × ((receive_of late 161 (polled twenty 2) room).outcome ≡ gives (receives.Accepted deliveries.Nothing (transmissions.Status (status 8 3 true))))
-    × ((receive_of late 161 (polled twenty 1) room).outcome ≡ gives (receives.Accepted deliveries.Nothing (transmissions.Status (status 8 3 true))))
+    × ((receive_of late 161 (polled twenty 2) room).outcome ≡ gives (receives.Accepted None (Some (status 8 3 true))))
+    × ((receive_of late 161 (polled twenty 1) room).outcome ≡ gives (receives.Accepted None (Some (status 8 3 true))))
     × ((receive_of late 161 (frame twenty 1) room).procedure.inactivity ≡ timer Idle 161 false 9)
     × ((status_sent_of half 160 (status 8 1 false) results.Failed).outcome ≡ gives sends.Failed)
     × ((status_sent_of half 160 (status 8 1 false) results.Failed).state.inactivity ≡ timer Idle 160 false 9)
@@ -237,30 +242,30 @@ pub visited : (waiting.inactivity ≡ timer (FinalWait 150) 150 false 8)
     × ((runs longer (receive 120 (frame twenty 1) room ∷ receive 125 (frame twenty 1) room ∷ [])).inactivity ≡ timer (Waiting 125) 125 false 8)
     × ((runs back (receive 145 (frame twenty 1) room ∷ [])).inactivity ≡ timer (Waiting 145) 145 true 8)
     × (sending.inactivity ≡ timer SendingUnsolicited 140 true 8)
-    × ((advance_of sending 900).outcome ≡ gives None)
+    × ((advance_of sending 900).outcome ≡ gives timers.None)
     × ((status_sent_of sending 150 (unsolicited asked) results.Sent).state.inactivity ≡ timer (FinalWait 150) 150 false 8)
-    × ((advance_of (runs sending (status_sent 150 (unsolicited asked) results.Sent ∷ [])) 900).outcome ≡ gives None)
+    × ((advance_of (runs sending (status_sent 150 (unsolicited asked) results.Sent ∷ [])) 900).outcome ≡ gives timers.None)
     × ((status_sent_of sending 150 (unsolicited asked) results.Failed).outcome ≡ gives sends.Failed)
-unfolding runs receive_of accepted advance_of status_sent_of push_frame push_continue finish assembled gathered slot_at put_slot same ones ones_in decode_of header_a_at address_at bits_of bits value octets field up_to layout any_set encode_of begin_frame continue_frame packed encodable in_range
+unfolding runs receive_of accepted advance_of status_sent_of push_frame finish assembled gathered continued same ones ones_in decode_of header_a_at address_at bits_of bits value octets field up_to layout any_set encode_of begin_frame continue_frame packed encodable in_range
 visited = (refl, refl, refl, refl, refl, refl, refl, refl, refl, refl, refl, refl, refl, refl, refl, refl, refl, refl, refl, refl, refl, refl, refl, refl, refl, refl, refl, refl, refl)
 
 -- an order of four frames: with two of its three Continues it is not complete, by whatever frame it was polled
-abbrev two_thirds : ArqProcedure
+abbrev two_thirds : Procedure
 two_thirds = runs (fresh 7) (receive 100 (frame thirty 0) room ∷ receive 101 (frame thirty 2) room ∷ receive 102 (polled thirty 0) room ∷ receive 103 (polled thirty 1) room ∷ receive 104 (polled thirty 3) room ∷ [])
 
-abbrev three_thirds : ArqProcedure
+abbrev three_thirds : Procedure
 three_thirds = runs two_thirds (receive 105 (polled thirty 2) room ∷ [])
 
 -- it is active from the Begin to its end, in each state of the timer; a status tells the whole map before and after the message is complete
-pub lived : ((receive_of two_thirds 105 (polled thirty 1) room).outcome ≡ gives (receives.Accepted deliveries.Nothing (transmissions.Status (status 9 5 false))))
+pub lived : ((receive_of two_thirds 105 (polled thirty 1) room).outcome ≡ gives (receives.Accepted None (Some (status 9 5 false))))
     × (two_thirds.inactivity ≡ timer (Waiting 104) 104 false 9)
-    × ((advance_of two_thirds 135).outcome ≡ gives None)
-    × ((advance_of two_thirds 136).outcome ≡ gives (SendStatus (unsolicited two_thirds)))
+    × ((advance_of two_thirds 135).outcome ≡ gives timers.None)
+    × ((advance_of two_thirds 136).outcome ≡ gives (timers.SendStatus (unsolicited two_thirds)))
     × ((unsolicited two_thirds).request.status.received_frames ≡ 5)
     × ((receive_of two_thirds 105 (frame thirty 2) room).buffer ≡ thirty ++ replicate 225 0)
-    × (status_in (receive_of two_thirds 105 (polled thirty 2) room).outcome ≡ transmissions.Status (status 9 7 true))
-    × ((receive_of three_thirds 106 (polled thirty 1) room).outcome ≡ gives (receives.Accepted deliveries.Nothing (transmissions.Status (status 9 7 true))))
-    × ((advance_of three_thirds 900).outcome ≡ gives None)
+    × (status_in (receive_of two_thirds 105 (polled thirty 2) room).outcome ≡ Some (status 9 7 true))
+    × ((receive_of three_thirds 106 (polled thirty 1) room).outcome ≡ gives (receives.Accepted None (Some (status 9 7 true))))
+    × ((advance_of three_thirds 900).outcome ≡ gives timers.None)
     × (active_of (fresh 7) ≡ false)
     × (active_of after_begin ≡ true)
     × (active_of asked ≡ true)
@@ -269,27 +274,23 @@ pub lived : ((receive_of two_thirds 105 (polled thirty 1) room).outcome ≡ give
     × (active_of half ≡ true)
     × (active_of sending ≡ true)
     × (active_of three_thirds ≡ true)
-unfolding runs receive_of accepted advance_of status_sent_of push_frame push_continue finish assembled gathered slot_at put_slot same ones ones_in decode_of header_a_at address_at bits_of bits value octets field up_to layout any_set encode_of begin_frame continue_frame packed encodable in_range
+unfolding runs receive_of accepted advance_of status_sent_of push_frame finish assembled gathered continued same ones ones_in decode_of header_a_at address_at bits_of bits value octets field up_to layout any_set encode_of begin_frame continue_frame packed encodable in_range
 lived = (refl, refl, refl, refl, refl, refl, refl, refl, refl, refl, refl, refl, refl, refl, refl, refl, refl)
-
--- what stands beside a refused constructor: nothing held, for Tmsi20 of 0, under token 0
-pub blank : (blank_procedure.inactivity ≡ timer Idle 0 false 0) × (blank_procedure.receiver ≡ R.fresh (Tmsi20 0))
-blank = (refl, refl)
 
 -- ---- the statements over lists of calls are not empty
 
 -- a status is pending, though a frame was accepted since
 pub pending : Pending longer 132 (receive 140 (frame twenty 1) room ∷ [])
-unfolding runs Each receive_of accepted advance_of push_frame push_continue finish assembled gathered slot_at put_slot same ones ones_in decode_of header_a_at address_at bits_of bits value octets field up_to layout any_set encode_of begin_frame continue_frame packed encodable in_range
+unfolding runs Each receive_of accepted advance_of push_frame finish assembled gathered continued same ones ones_in decode_of header_a_at address_at bits_of bits value octets field up_to layout any_set encode_of begin_frame continue_frame packed encodable in_range
 pending = record { status = unsolicited (runs longer (advance 132 ∷ [])); asked = refl; under = refl; unanswered = ((λ a. a.0), tt) }
 
 -- one was sent, though octets that are no frame were refused and a reset was not called since
 pub told-sent : ReportedSent after_begin 132 (receive 140 (1 ∷ []) room ∷ advance 141 ∷ []) 150 (unsolicited asked) results.Sent
-unfolding runs Each receive_of accepted advance_of status_sent_of push_frame push_continue finish assembled gathered slot_at put_slot same ones ones_in decode_of header_a_at address_at bits_of bits value octets field up_to layout any_set encode_of begin_frame continue_frame packed encodable in_range
+unfolding runs Each receive_of accepted advance_of status_sent_of push_frame finish assembled gathered continued same ones ones_in decode_of header_a_at address_at bits_of bits value octets field up_to layout any_set encode_of begin_frame continue_frame packed encodable in_range
 told-sent = record {
   status = unsolicited asked;
   asked = refl;
-  silent = (((λ a. let e = a.2 in let z : ◌≡◌ {A = ℕ} 0 1 = cc in omega arith), (λ a. a)), (((λ a. a), (λ a. a)), tt));
+  silent = (((λ a. let e = a.2 in cc), (λ a. a)), (((λ a. a), (λ a. a)), tt));
   unsolicited = refl;
   token = refl;
   sent = refl;

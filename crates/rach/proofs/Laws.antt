@@ -1,12 +1,13 @@
 -- Laws of identities. Assumes nothing.
-use mathlib.Core.Path.{◌≡◌, refl, sym, ap, ap₂, ◌∙◌}
+use mathlib.Core.Path.{◌≡◌, refl, sym, ap, ◌∙◌}
 use mathlib.Core.Logic.{◌↔◌}
 use mathlib.Core.Bool.{Bool, true, false, ◌&&◌}
 use Prim.Native.Nat.{ℕ, zero, suc, ◌^◌, ◌<◌, ◌≤◌}
 use native.Mathlib.Omega.{arith}
 use lib.Dec.{eqb, ltb}
-use borrow.Author.Tests.{eqb-true, eq-eqb, ne_eqb, ltb-true, lt-ltb}
+use borrow.Author.Tests.{eqb-true, eq-eqb, ltb-true, lt-ltb}
 use Rattle.rach.specs.Identity.{type_of, value_of, width_of, identity_of, parts_of, same, in_range, encodable}
+use Rattle.rach.specs.contracts.MobileIdentityPartialEq.TheImpl.{ghosts}
 use Rattle.rach.specs.declared.IdentityParts.{IdentityParts}
 use Rattle.rach.specs.declared.MobileIdentity.{MobileIdentity}
 use Rattle.rach.specs.declared.MobileIdentity.TheVariants.{Tmsi20, Tmsi24, Min34, Imsi50}
@@ -31,20 +32,6 @@ width_most (suc zero) = omega arith
 width_most (suc (suc zero)) = omega arith
 width_most (suc (suc (suc zero))) = omega arith
 width_most (suc (suc (suc (suc t)))) = omega arith
-
--- a type that is none of 0, 1 and 2
-pub width_rest : (t : ℕ) → (t ≡ 0 → ⊥) → (t ≡ 1 → ⊥) → (t ≡ 2 → ⊥) → 50 ≡ width_of t
-width_rest zero a b c = absurd (a refl)
-width_rest (suc zero) a b c = absurd (b refl)
-width_rest (suc (suc zero)) a b c = absurd (c refl)
-width_rest (suc (suc (suc zero))) a b c = refl
-width_rest (suc (suc (suc (suc t)))) a b c = refl
-
-pub identity_rest : (t v : ℕ) → (t ≡ 0 → ⊥) → (t ≡ 1 → ⊥) → (t ≡ 2 → ⊥) → Imsi50 v ≡ identity_of t v
-identity_rest zero v a b c = absurd (a refl)
-identity_rest (suc zero) v a b c = absurd (b refl)
-identity_rest (suc (suc zero)) v a b c = absurd (c refl)
-identity_rest (suc (suc (suc t))) v a b c = refl
 
 -- an identity is its type and its value, and the other way round
 pub identity_parts : (i : MobileIdentity) → identity_of (type_of i) (value_of i) ≡ i
@@ -122,19 +109,25 @@ same_equal a b e =
     let v : value_of a ≡ value_of b = eqb-true (value_of a) (value_of b) p.1 in
     sym (identity_parts a) ∙ ap (λ (x : ℕ). identity_of x (value_of a)) t ∙ ap (identity_of (type_of b)) v ∙ identity_parts b
 
--- the tests of `equals`, on the parts
-module _ (a b : MobileIdentity) {p q : IdentityParts} (ep : p ≡ parts_of a) (eq : q ≡ parts_of b) where
-  pub types_differ : (p.identity_type ≡ q.identity_type → ⊥) → false ≡ same a b
-  unfolding same
-  types_differ d =
-      let n : type_of a ≡ type_of b → ⊥ = λ e. d (ap (λ (x : IdentityParts). x.identity_type) ep ∙ e ∙ sym (ap (λ (x : IdentityParts). x.identity_type) eq)) in
-      rw (ne_eqb (type_of a) (type_of b) n)
-
-  pub types_equal : p.identity_type ≡ q.identity_type → eqb p.value q.value ≡ same a b
-  unfolding same
-  types_equal e =
-      let n : type_of a ≡ type_of b = sym (ap (λ (x : IdentityParts). x.identity_type) ep) ∙ e ∙ ap (λ (x : IdentityParts). x.identity_type) eq in
-      rw (eq-eqb (type_of a) (type_of b) n) (ap₂ (λ (x y : IdentityParts). eqb x.value y.value) ep eq)
+-- `==`, which is derived, answers the definition
+pub eq_same : (a b : MobileIdentity) → ghosts.eq a b ≡ same a b
+unfolding same
+eq_same (Tmsi20 v) (Tmsi20 w) = refl
+eq_same (Tmsi20 v) (Tmsi24 w) = refl
+eq_same (Tmsi20 v) (Min34 w) = refl
+eq_same (Tmsi20 v) (Imsi50 w) = refl
+eq_same (Tmsi24 v) (Tmsi20 w) = refl
+eq_same (Tmsi24 v) (Tmsi24 w) = refl
+eq_same (Tmsi24 v) (Min34 w) = refl
+eq_same (Tmsi24 v) (Imsi50 w) = refl
+eq_same (Min34 v) (Tmsi20 w) = refl
+eq_same (Min34 v) (Tmsi24 w) = refl
+eq_same (Min34 v) (Min34 w) = refl
+eq_same (Min34 v) (Imsi50 w) = refl
+eq_same (Imsi50 v) (Tmsi20 w) = refl
+eq_same (Imsi50 v) (Tmsi24 w) = refl
+eq_same (Imsi50 v) (Min34 w) = refl
+eq_same (Imsi50 v) (Imsi50 w) = refl
 
 -- what the rule accepts, and only that
 pub in-range : (v w : ℕ) → 0 < v → v < 2 ^ w → in_range v w ≡ true

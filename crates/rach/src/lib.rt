@@ -3,9 +3,9 @@
 #![tactic(auto)]
 
 ghost use Rattle.std.specs.Prelude.{◌≡◌, ◌^◌, ◌<◌, ◌≤◌};
-ghost use Rattle.rach.specs.Identity.{width_of, in_range, parts_of, identity_of, same, encodable};
+ghost use Rattle.rach.specs.Identity.{width_of, in_range, parts_of, identity_of, encodable};
 
-#[derive(Clone, Copy)]
+#[derive(Clone, Copy, Debug, PartialEq, Eq)]
 pub enum MobileIdentity {
     Tmsi20(u32),
     Tmsi24(u32),
@@ -13,7 +13,7 @@ pub enum MobileIdentity {
     Imsi50(u64),
 }
 
-#[derive(Clone, Copy)]
+#[derive(Clone, Copy, Debug, PartialEq, Eq)]
 pub struct IdentityParts {
     pub identity_type: u8,
     pub width: usize,
@@ -37,10 +37,7 @@ pub fn in_range(value: u64, width: usize) -> bool
     requires { width ≤ 50 }
     ensures { result ≡ in_range value width }
 {
-    if value == 0 {
-        return false;
-    }
-    value < 1u64 << width
+    value != 0 && value < 1u64 << width
 }
 
 // The identity of a type and a value that the type's width holds.
@@ -56,52 +53,29 @@ pub fn identity_of(identity_type: u8, value: u64) -> MobileIdentity
     }
 }
 
-// Type, width and value. (A method of this name is the toolchain's own.)
-pub fn parts(identity: MobileIdentity) -> IdentityParts
-    ensures { result ≡ parts_of identity }
-{
-    match identity {
-        MobileIdentity::Tmsi20(value) => IdentityParts {
-            identity_type: 0,
-            width: 20,
-            value: value as u64,
-        },
-        MobileIdentity::Tmsi24(value) => IdentityParts {
-            identity_type: 1,
-            width: 24,
-            value: value as u64,
-        },
-        MobileIdentity::Min34(value) => IdentityParts {
-            identity_type: 2,
-            width: 34,
-            value: value,
-        },
-        MobileIdentity::Imsi50(value) => IdentityParts {
-            identity_type: 3,
-            width: 50,
-            value: value,
-        },
-    }
-}
-
 impl MobileIdentity {
-    // Equal means same type and value.
-    pub fn equals(self, other: MobileIdentity) -> bool
-        ensures { result ≡ same self other }
+    // Type, width and value.
+    pub fn parts(self) -> IdentityParts
+        ensures { result ≡ parts_of self }
     {
-        let a = parts(self);
-        let b = parts(other);
-        if a.identity_type != b.identity_type {
-            return false;
+        let (identity_type, value) = match self {
+            MobileIdentity::Tmsi20(value) => (0, u64::from(value)),
+            MobileIdentity::Tmsi24(value) => (1, u64::from(value)),
+            MobileIdentity::Min34(value) => (2, value),
+            MobileIdentity::Imsi50(value) => (3, value),
+        };
+        IdentityParts {
+            identity_type,
+            width: width_of(identity_type),
+            value,
         }
-        a.value == b.value
     }
 
     // Whether the identity can be encoded.
     pub fn encodable(self) -> bool
         ensures { result ≡ encodable self }
     {
-        let p = parts(self);
+        let p = self.parts();
         in_range(p.value, p.width)
     }
 }

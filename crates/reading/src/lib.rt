@@ -1,76 +1,45 @@
 // Reads octets into a lent buffer, so that an end is told from a failure.
 #![tactic(auto)]
 
-ghost use Rattle.std.specs.Prelude.{◌≡◌, ◌≢◌, ◌↔◌, true, false, IsTrue, ◌≤◌, ◌<◌, length, take};
+ghost use Rattle.std.specs.Prelude.{◌≢◌, ◌≤◌, ◌<◌, length, IfErr, OnErr, OnOk};
+ghost use Rattle.std.specs.Io.{ReadsAtMost};
 ghost use Rattle.std.specs.IoError.{error_kind};
-ghost use Rattle.std.specs.Io.KnownBytes.{Consumes, IsAtEnd};
-ghost use Rattle.io.specs.Counts.{IsPrefixLen};
+ghost use Rattle.std.specs.Io.KnownBytes.{Consumes, IsAtEnd, ReadConsumes};
 
 use std::io;
 use std::io::{ErrorKind, Read};
 
-// How many octets were read, and whether that was cut short by a read that failed.
-#[derive(Clone, Copy)]
-pub struct Got {
-    pub count: usize,
-    pub failed: bool,
-}
-
-// A read that a signal interrupts is made again; any other error is a failure.
-fn cannot_read(error: &io::Error) -> bool
-    ensures { IsTrue result ↔ (error_kind error.now ≢ ErrorKind.Interrupted) }
-{
-    error.kind() != ErrorKind::Interrupted
-}
-
-// One read. None is read at the end, where there is no room, and where reading fails.
-fn read_once<R: Read>(input: &mut R, room: &mut [u8]) -> Got
-    ensures bound { result.count ≤ length room.new }
-    ensures none { result.failed ≡ true → result.count ≡ 0 }
-    ensures bytes { Consumes (R.remaining input.old) (R.remaining input.new) (take result.count room.new) }
-    ensures end { result.failed ≡ false → result.count ≡ 0 → 0 < length room.new → IsAtEnd (R.remaining input.new) }
+// One read. A read that a signal interrupts is made again; any other error is a failure.
+fn read_once<R: Read>(input: &mut R, room: &mut [u8]) -> io::Result<usize>
+    ensures bound { ReadsAtMost result room.new }
+    ensures bytes { ReadConsumes (R.remaining input.old) (R.remaining input.new) result room.new }
+    ensures retried { IfErr result (λ e. error_kind e ≢ ErrorKind.Interrupted) }
 {
     for _ in 0..u64::MAX {
         match input.read(room) {
-            Ok(count) => {
-                return Got {
-                    count: count,
-                    failed: false,
-                };
-            }
-            Err(error) => {
-                if cannot_read(&error) {
-                    break;
-                }
-            }
+            Err(error) if error.kind() == ErrorKind::Interrupted => {}
+            read => return read,
         }
     }
-    Got {
-        count: 0,
-        failed: true,
-    }
+    Err(io::Error::from(ErrorKind::Other))
 }
 
-// Reads until the room is full, the input ends or a read fails.
-pub fn fill<R: Read>(input: &mut R, room: &mut [u8]) -> Got
-    ensures inside { IsPrefixLen result.count room.new }
-    ensures short { result.failed ≡ true → result.count < length room.new }
-    ensures bytes { Consumes (R.remaining input.old) (R.remaining input.new) (take result.count room.new) }
-    ensures end { result.failed ≡ false → result.count < length room.new → IsAtEnd (R.remaining input.new) }
+// Reads until the room is full, the input ends or a read fails. Lends what was read, with the failure, if any. (std's
+// `read_exact` does not say how much it read before a failure, and `read_to_end` takes a heap.)
+pub fn fill<'a, R: Read>(input: &mut R, room: &'a mut [u8]) -> (&'a [u8], io::Result<()>)
+    ensures inside { length result.0.now ≤ length room.old }
+    ensures short { OnErr result.1 (length result.0.now < length room.old) }
+    ensures bytes { Consumes (R.remaining input.old) (R.remaining input.new) result.0.now }
+    ensures retried { IfErr result.1 (λ e. error_kind e ≢ ErrorKind.Interrupted) }
+    ensures end { OnOk result.1 (length result.0.now < length room.old → IsAtEnd (R.remaining input.new)) }
 {
-    let mut count: usize = 0;
+    let mut count = 0;
     while count < room.len() {
-        let got = read_once(input, &mut room[count..]);
-        if got.count == 0 {
-            return Got {
-                count: count,
-                failed: got.failed,
-            };
+        match read_once(input, &mut room[count..]) {
+            Ok(0) => break,
+            Ok(n) => count += n,
+            Err(error) => return (&room[..count], Err(error)),
         }
-        count += got.count;
     }
-    Got {
-        count: count,
-        failed: false,
-    }
+    (&room[..count], Ok(()))
 }

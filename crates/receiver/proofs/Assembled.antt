@@ -1,52 +1,64 @@
 -- The message is put together from the Begin's bits and the slots', one run after the other. Assumes nothing.
 use mathlib.Core.Path.{◌≡◌, refl, sym, ap, ap₂, ◌∙◌}
 use mathlib.Core.Bool.{Bool}
-use mathlib.Core.List.{List, ◌∷◌, ◌++◌, append-nil, append_assoc}
+use mathlib.Core.List.{List, [], ◌∷◌, ◌++◌, append-nil, append_assoc}
 use Prim.Native.Nat.{ℕ, zero, suc, ◌+◌, ◌-◌, ◌*◌, ◌≤◌, ◌<◌, min}
-use native.Mathlib.Nat.{add-zero, add-suc, suc-add}
 use native.Mathlib.Numerals.{add-one}
 use native.Mathlib.Omega.{arith}
-use lib.ListN.{length, take, drop, length-append, length-take, length-drop}
+use borrow.Author.Count.{below_more}
+use lib.ListN.{length, take, drop, length-append, length-take}
 use lib.Seq.{take-take, take-append-add, take_all, take_at, length-take-le}
+use Rattle.std.specs.Prelude.{flat_map}
+use Rattle.std.proofs.lemmas.List.{take_more}
+use Rattle.std.proofs.lemmas.List.Concat.{flat_map-append}
 use Rattle.field.specs.Bits.{value, bits_of, octets, splice}
 use Rattle.field.specs.Layout.{zeros}
-use Rattle.field.proofs.Laws.{bits_of-take, bits_of-drop, length-bits_of}
+use Rattle.field.proofs.Laws.{length-bits_of}
 use Rattle.field.proofs.Put.{splice-after}
 use Rattle.field.proofs.Set.{drop-take}
 use Rattle.rach.specs.Identity.{type_of}
+use Rattle.rach.specs.declared.MobileIdentity.{MobileIdentity}
 use Rattle.rach.proofs.Laws.{width_least}
 use Rattle.arq.specs.Frame.{room}
-use Rattle.receiver.specs.declared.ArqReassembler.{ArqReassembler}
+use Rattle.receiver.specs.declared.transaction.Transaction.{Transaction}
 use Rattle.receiver.specs.Receiver.{needed, first_bit, slot_at, gathered, assembled}
 
--- the bits of slot k
-pub slot_bits : (s : List ℕ) (k : ℕ) → bits_of (slot_at s k) ≡ take 80 (drop (80 * k) (bits_of s))
-unfolding slot_at
-slot_bits s k =
-    let e : 8 * (10 * k) ≡ 80 * k = omega arith in
-    sym (bits_of-take 10 (drop (10 * k) s)) ∙ ap (take 80) (sym (bits_of-drop (10 * k) s) ∙ ap (λ (n : ℕ). drop n (bits_of s)) e)
+-- the data bits of a slot
+abbrev pub slot_bits : List ℕ → List Bool
+slot_bits d = take 79 (bits_of d)
 
 -- one slot more
-pub gathered-suc : (s : List ℕ) (k n : ℕ) → gathered s k (suc n) ≡ gathered s k n ++ take 79 (bits_of (slot_at s (k + n)))
+pub gathered_more : (slots : List (List ℕ)) (k : ℕ) → k < length slots → gathered slots (k + 1) ≡ gathered slots k ++ slot_bits (slot_at slots k)
 unfolding gathered
-gathered-suc s k zero = append-nil (take 79 (bits_of (slot_at s k))) ∙ ap (λ (j : ℕ). take 79 (bits_of (slot_at s j))) (sym (add-zero k))
-gathered-suc s k (suc n) =
-    ap (λ (l : List Bool). take 79 (bits_of (slot_at s k)) ++ l) (gathered-suc s (suc k) n)
-    ∙ sym (append_assoc (take 79 (bits_of (slot_at s k))) (gathered s (suc k) n) (take 79 (bits_of (slot_at s (suc k + n)))))
-    ∙ ap (λ (j : ℕ). (take 79 (bits_of (slot_at s k)) ++ gathered s (suc k) n) ++ take 79 (bits_of (slot_at s j))) (suc-add k n ∙ sym (add-suc k n))
+gathered_more slots k h =
+    ap (flat_map slot_bits) (take_more slots k [] h)
+    ∙ flat_map-append slot_bits (take k slots) (slot_at slots k ∷ [])
+    ∙ ap (λ (l : List Bool). flat_map slot_bits (take k slots) ++ l) (append-nil (slot_bits (slot_at slots k)))
 
-pub length-gathered : (s : List ℕ) (n : ℕ) → 10 * n ≤ length s → length (gathered s 0 n) ≡ 79 * n
+-- the first n slots are there, of ten octets each
+pub record Sized (slots : List (List ℕ)) (n : ℕ) : Type 0 where
+  pub size : n ≤ length slots
+  pub ten : (k : ℕ) → k < n → length (slot_at slots k) ≡ 10
+
+pub sized_none : (slots : List (List ℕ)) → Sized slots 0
+sized_none slots = record { size = omega arith; ten = λ k l. absurd (omega arith) }
+
+pub sized_more : (slots : List (List ℕ)) (n : ℕ) → n < length slots → length (slot_at slots n) ≡ 10 → Sized slots n → Sized slots (n + 1)
+sized_more slots n h e s = record { size = omega arith; ten = below_more (λ k. length (slot_at slots k) ≡ 10) n s.ten e }
+
+length-gathered : (slots : List (List ℕ)) (n : ℕ) → Sized slots n → length (gathered slots n) ≡ 79 * n
 unfolding gathered
-length-gathered s zero h = refl
-length-gathered s (suc n) h =
-    let e : 0 + n ≡ n = omega arith in
-    let l : length (take 79 (bits_of (slot_at s n))) ≡ 79 = rw (slot_bits s n) (simp (length-take, length-drop, length-bits_of) (omega arith)) in
-    ap length (gathered-suc s 0 n ∙ ap (λ (j : ℕ). gathered s 0 n ++ take 79 (bits_of (slot_at s j))) e)
-    ∙ length-append (gathered s 0 n) (take 79 (bits_of (slot_at s n)))
-    ∙ omega (arith, length-gathered s n (omega arith))
+length-gathered slots zero h = refl
+length-gathered slots (suc n) h =
+    let before : Sized slots n = record { size = omega (arith, h.size); ten = λ k l. h.ten k (omega arith) } in
+    let last : length (slot_bits (slot_at slots n)) ≡ 79 = simp (length-take, length-bits_of) (omega (arith, h.ten n (omega arith))) in
+    ap (λ (k : ℕ). length (gathered slots k)) (sym (add-one n))
+    ∙ ap length (gathered_more slots n (omega (arith, h.size)))
+    ∙ length-append (gathered slots n) (slot_bits (slot_at slots n))
+    ∙ omega (arith, length-gathered slots n before)
 
 -- the first octets of bits
-pub take-octets : (n k : ℕ) (bs : List Bool) → n ≤ k → take n (octets k bs) ≡ octets n (take (8 * n) bs)
+take-octets : (n k : ℕ) (bs : List Bool) → n ≤ k → take n (octets k bs) ≡ octets n (take (8 * n) bs)
 unfolding octets
 take-octets zero k bs h = refl
 take-octets (suc n) zero bs h = absurd (omega arith)
@@ -56,69 +68,66 @@ take-octets (suc n) (suc k) bs h =
     let d : drop 8 (take (8 * suc n) bs) ≡ take (8 * n) (drop 8 bs) = drop-take 8 (8 * suc n) bs ∙ ap (λ (m : ℕ). take m (drop 8 bs)) c in
     ap₂ (λ (x : ℕ) (l : List ℕ). x ∷ l) (ap value (sym a)) (take-octets n k (drop 8 bs) (omega arith) ∙ ap (octets n) (sym d))
 
--- the Begin's bits, then those of k slots
-abbrev pub joined : ArqReassembler → ℕ → List Bool
-joined s k = take (room s.identity) (bits_of s.transaction.begin_data) ++ gathered s.slots 0 k
+module _ (i : MobileIdentity) (t : Transaction) where
+  -- the Begin's bits, then those of k slots
+  abbrev pub joined : ℕ → List Bool
+  joined k = take (room i) (bits_of t.begin_data) ++ gathered t.slots k
 
--- what the message has of them
-abbrev pub parts : ArqReassembler → ℕ → List Bool
-parts s k = take (min (8 * s.transaction.message_octets) (room s.identity + 79 * k)) (joined s k)
+  -- what the message has of them
+  abbrev pub parts : ℕ → List Bool
+  parts k = take (min (8 * t.message_octets) (room i + 79 * k)) (joined k)
 
-module _ (s : ArqReassembler) (seven : length s.transaction.begin_data ≡ 7) (all : length s.slots ≡ 260) where
-  length-begin : length (take (room s.identity) (bits_of s.transaction.begin_data)) ≡ room s.identity
-  length-begin = length-take-le (room s.identity) (bits_of s.transaction.begin_data) (omega (arith, length-bits_of s.transaction.begin_data, width_least (type_of s.identity)))
+  module _ (seven : length t.begin_data ≡ 7) where
+    length-joined : (k : ℕ) → Sized t.slots k → length (joined k) ≡ room i + 79 * k
+    length-joined k h =
+        let r : length (take (room i) (bits_of t.begin_data)) ≡ room i = length-take-le (room i) (bits_of t.begin_data) (omega (arith, length-bits_of t.begin_data, width_least (type_of i))) in
+        length-append (take (room i) (bits_of t.begin_data)) (gathered t.slots k)
+        ∙ ap₂ (λ (x y : ℕ). x + y) r (length-gathered t.slots k h)
 
-  length-joined : (k : ℕ) → k ≤ 26 → length (joined s k) ≡ room s.identity + 79 * k
-  length-joined k h =
-      length-append (take (room s.identity) (bits_of s.transaction.begin_data)) (gathered s.slots 0 k)
-      ∙ ap₂ (λ (x y : ℕ). x + y) length-begin (length-gathered s.slots k (omega arith))
+    -- at first the Begin's
+    pub parts_none : take (first_bit i t 0) (bits_of t.begin_data) ≡ parts 0
+    unfolding gathered
+    parts_none =
+        let r : ℕ = room i in
+        let n : ℕ = 8 * t.message_octets in
+        let e : min n r + 79 * 0 ≡ min n (r + 79 * 0) = omega arith in
+        sym (take-take (first_bit i t 0) r (bits_of t.begin_data) (omega arith))
+        ∙ ap₂ take e (sym (append-nil (take r (bits_of t.begin_data))))
 
-  -- at first the Begin's
-  pub parts_zero : take (first_bit s 0) (bits_of s.transaction.begin_data) ≡ parts s 0
-  unfolding gathered
-  parts_zero =
-      let r : ℕ = room s.identity in
-      let n : ℕ = 8 * s.transaction.message_octets in
-      let e : min n r + 79 * 0 ≡ min n (r + 79 * 0) = omega arith in
-      sym (take-take (first_bit s 0) r (bits_of s.transaction.begin_data) (omega arith))
-      ∙ ap₂ take e (sym (append-nil (take r (bits_of s.transaction.begin_data))))
+    -- then one slot's more
+    pub parts_more : (k : ℕ) → k < needed i t → k < 26 → k < length t.slots → Sized t.slots k
+        → splice (first_bit i t k) (take (min 79 (8 * t.message_octets - first_bit i t k)) (bits_of (slot_at t.slots k))) (splice 0 (parts k) (zeros 2040))
+        ≡ splice 0 (parts (k + 1)) (zeros 2040)
+    parts_more k h l more_slots sized =
+        let r : ℕ = room i in
+        let n : ℕ = 8 * t.message_octets in
+        let j : ℕ = min 79 (n - first_bit i t k) in
+        let slot : List Bool = bits_of (slot_at t.slots k) in
+        let lj : length (joined k) ≡ r + 79 * k = length-joined k sized in
+        let whole : parts k ≡ joined k = take_all (min n (r + 79 * k)) (joined k) (omega arith) in
+        let lp : length (parts k) ≡ first_bit i t k = ap length whole ∙ lj ∙ omega arith in
+        let run : take j slot ≡ take j (take 79 slot) = sym (take-take j 79 slot (omega arith)) in
+        let more : joined (k + 1) ≡ joined k ++ take 79 slot =
+        ap (λ (g : List Bool). take r (bits_of t.begin_data) ++ g) (gathered_more t.slots k more_slots)
+        ∙ sym (append_assoc (take r (bits_of t.begin_data)) (gathered t.slots k) (take 79 slot)) in
+        let count : min n (r + 79 * (k + 1)) ≡ length (joined k) + j = omega arith in
+        splice-after (parts k) (take j slot) (zeros 2040) (first_bit i t k) (sym lp) (omega (arith, width_least (type_of i)))
+        ∙ ap (λ (p : List Bool). splice 0 p (zeros 2040))
+        (ap₂ (λ (a b : List Bool). a ++ b) whole run
+        ∙ sym (take-append-add (joined k) (take 79 slot) j)
+        ∙ ap₂ take (sym count) (sym more))
 
-  -- then one slot's more
-  pub parts_suc : (k : ℕ) → k < needed s → k < 26
-      → splice (first_bit s k) (take (min 79 (8 * s.transaction.message_octets - first_bit s k)) (drop (80 * k) (bits_of s.slots))) (splice 0 (parts s k) (zeros 2040))
-      ≡ splice 0 (parts s (k + 1)) (zeros 2040)
-  parts_suc k h l =
-      let r : ℕ = room s.identity in
-      let n : ℕ = 8 * s.transaction.message_octets in
-      let j : ℕ = min 79 (n - first_bit s k) in
-      let lj : length (joined s k) ≡ r + 79 * k = length-joined k (omega arith) in
-      let whole : parts s k ≡ joined s k = take_all (min n (r + 79 * k)) (joined s k) (omega arith) in
-      let lp : length (parts s k) ≡ first_bit s k = ap length whole ∙ lj ∙ omega arith in
-      let z : 0 + k ≡ k = omega arith in
-      let run : take j (drop (80 * k) (bits_of s.slots)) ≡ take j (take 79 (bits_of (slot_at s.slots k))) =
-      sym (take-take j 80 (drop (80 * k) (bits_of s.slots)) (omega arith)) ∙ ap (take j) (sym (slot_bits s.slots k)) ∙ sym (take-take j 79 (bits_of (slot_at s.slots k)) (omega arith)) in
-      let more : joined s (k + 1) ≡ joined s k ++ take 79 (bits_of (slot_at s.slots k)) =
-      ap (λ (m : ℕ). joined s m) (add-one k)
-      ∙ ap (λ (g : List Bool). take r (bits_of s.transaction.begin_data) ++ g) (gathered-suc s.slots 0 k ∙ ap (λ (m : ℕ). gathered s.slots 0 k ++ take 79 (bits_of (slot_at s.slots m))) z)
-      ∙ sym (append_assoc (take r (bits_of s.transaction.begin_data)) (gathered s.slots 0 k) (take 79 (bits_of (slot_at s.slots k)))) in
-      let count : min n (r + 79 * (k + 1)) ≡ length (joined s k) + j = omega arith in
-      splice-after (parts s k) (take j (drop (80 * k) (bits_of s.slots))) (zeros 2040) (first_bit s k) (sym lp) (omega (arith, width_least (type_of s.identity)))
-      ∙ ap (λ (p : List Bool). splice 0 p (zeros 2040))
-      (ap₂ (λ (a b : List Bool). a ++ b) whole run
-      ∙ sym (take-append-add (joined s k) (take 79 (bits_of (slot_at s.slots k))) j)
-      ∙ ap₂ take (sym count) (sym more))
-
-  -- and with all of them the message
-  pub parts_all : s.transaction.message_octets < 256 → {m : List ℕ} → m ≡ octets 255 (splice 0 (parts s (needed s)) (zeros 2040))
-      → take s.transaction.message_octets m ≡ assembled s
-  unfolding assembled splice
-  parts_all few e =
-      let n : ℕ = s.transaction.message_octets in
-      let r : ℕ = room s.identity in
-      let lj : length (joined s (needed s)) ≡ r + 79 * needed s = length-joined (needed s) (omega arith) in
-      let c : min (8 * n) (r + 79 * needed s) ≡ 8 * n = omega arith in
-      let lp : length (parts s (needed s)) ≡ 8 * n = rw c (length-take-le (8 * n) (joined s (needed s)) (omega arith)) in
-      ap (take n) e
-      ∙ take-octets n 255 (splice 0 (parts s (needed s)) (zeros 2040)) (omega arith)
-      ∙ ap (octets n) (take_at (parts s (needed s)) (drop (0 + length (parts s (needed s))) (zeros 2040)) (8 * n) lp)
-      ∙ ap (λ (k : ℕ). octets n (take k (joined s (needed s)))) c
+    -- and with all of them the message
+    pub parts_all : t.message_octets < 256 → Sized t.slots (needed i t) → {m : List ℕ} → m ≡ octets 255 (splice 0 (parts (needed i t)) (zeros 2040))
+        → take t.message_octets m ≡ assembled i t
+    unfolding assembled splice
+    parts_all few sized e =
+        let n : ℕ = t.message_octets in
+        let r : ℕ = room i in
+        let lj : length (joined (needed i t)) ≡ r + 79 * needed i t = length-joined (needed i t) sized in
+        let c : min (8 * n) (r + 79 * needed i t) ≡ 8 * n = omega arith in
+        let lp : length (parts (needed i t)) ≡ 8 * n = rw c (length-take-le (8 * n) (joined (needed i t)) (omega arith)) in
+        ap (take n) e
+        ∙ take-octets n 255 (splice 0 (parts (needed i t)) (zeros 2040)) (omega arith)
+        ∙ ap (octets n) (take_at (parts (needed i t)) (drop (0 + length (parts (needed i t))) (zeros 2040)) (8 * n) lp)
+        ∙ ap (λ (k : ℕ). octets n (take k (joined (needed i t)))) c

@@ -57,7 +57,7 @@ module _ (a : HeaderA) (bs : List Bool) (size : length bs ≡ 112) (f : ArqFrame
         count = omega arith;
         number = ltb-false 25 (field 25 5 bs) y.0;
         begin_data = refl;
-        begin_bits = λ k. let z : ◌≡◌ {A = ℕ} 0 1 = cc in absurd (omega arith);
+        begin_bits = λ k. cc;
         continue_data = ap (λ l. octets 10 (up_to 80 l)) (sym (bits-kept 10 79 d (length-field 30 79 bs (omega arith)) (omega arith)));
       })
 
@@ -90,7 +90,7 @@ module _ (a : HeaderA) (bs : List Bool) (size : length bs ≡ 112) (f : ArqFrame
           let g = then-gives (address_at 10 bs) (decode_begin a bs) e in
           decoded_begin g.0 g.1 g.2
       go false true e = decoded_continue e
-      go false false e = let z : ◌≡◌ {A = ℕ} 0 1 = cc in absurd (omega arith)
+      go false false e = cc
 
 -- every frame that decode gives is so
 pub decoded : (xs : List ℕ) (f : ArqFrame) → decode_of xs ≡ gives f → Decoded f
@@ -110,7 +110,7 @@ pub record Within {A : Type 0} (o : Outcome A) : Type 0 where
   pub small : (n : ℕ) → o ≡ refuses n → n ≤ 15
 
 within_gives : {A : Type 0} (a : A) → Within (gives a)
-within_gives a = record { small = λ n e. let z : ◌≡◌ {A = ℕ} 0 1 = cc in absurd (omega arith) }
+within_gives a = record { small = λ n e. cc }
 
 within_refuses : {A : Type 0} (k : ℕ) → k ≤ 15 → Within {A = A} (refuses k)
 within_refuses k l = record { small = λ n e. let q : k ≡ n = cc in omega arith }

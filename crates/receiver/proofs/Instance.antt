@@ -8,8 +8,11 @@ use Prim.Native.Nat.{ℕ, zero, suc, ◌+◌, ◌<◌}
 use native.Mathlib.Omega.{arith}
 use lib.Dec.{eqb, ltb, lit≤}
 use lib.Count.{ones, ones_in}
+use Rattle.std.proofs.lemmas.Bool.{and_from, cond-true}
 use lib.ListN.{length, take, replicate}
-use borrow.Author.Tests.{eq-eqb, ltb-true, lt-ltb, not-true}
+use Rattle.std.specs.Prelude.{Option, Some, None, bytes_eq}
+use Rattle.std.specs.Option.{option_map_or}
+use borrow.Author.Tests.{eq-eqb, ltb-true, lt-ltb}
 use Rattle.field.specs.Bits.{Octets, bits, value, bits_of, octets, field}
 use Rattle.field.specs.Layout.{layout, up_to, any_set}
 use Rattle.rach.specs.Identity.{type_of, same, in_range, encodable}
@@ -29,16 +32,14 @@ use Rattle.arq.specs.Decode.{decode_of}
 use Rattle.arq.specs.Cut.{continues, cut_frame, count_of, frame_of}
 use Rattle.arq.specs.Round.{widened}
 use Rattle.receiver.specs.declared.ArqReassembler.{ArqReassembler}
-use Rattle.receiver.specs.declared.Delivery.TheVariants as deliveries
 use Rattle.receiver.specs.declared.Reception.{Reception}
 use Rattle.receiver.specs.declared.Reception.TheVariants.{Ignored, Accepted}
-use Rattle.receiver.specs.declared.StatusAnswer.{StatusAnswer}
-use Rattle.receiver.specs.declared.StatusAnswer.TheVariants.{Status}
+use Rattle.receiver.specs.declared.ArqStatus.{ArqStatus}
 use Rattle.receiver.specs.Map.{In}
-use Rattle.receiver.specs.Receiver.{Out, fresh, new_of, slot_at, put_slot, gathered, assembled, finish, same_octets, push_continue, push_frame, push_of, status_answer}
+use Rattle.receiver.specs.Receiver.{Out, fresh, new_of, gathered, assembled, finish, continued, push_frame, push_of, status_answer}
 use Rattle.receiver.specs.Demand3.{Push, heard, heards, BeginFor, Such, OfCut, Fitting, Holds, Claim, handed, runs}
 use Rattle.receiver.proofs.Heard.{piece}
-use Rattle.receiver.proofs.PushCases.{true_false, pick_true, pick_begin, pick_continue, both_true, same-octets}
+use Rattle.receiver.proofs.PushCases.{pick_begin, pick_continue, same-octets}
 use Rattle.receiver.proofs.Whole.{demand3}
 
 -- ---- the pushes
@@ -158,7 +159,7 @@ module _ (h : ArqHeader) (i : MobileIdentity) (m : List ℕ) (x : ArqFrame) wher
   abbrev fine : ArqFrame → Bool
   fine f =
       by_kind f.kind (not (same f.identity i))
-      (cond (such_in f) (ltb f.frame_number (continues i (length m)) && same_octets f.continue_data (piece i m f.frame_number)) true)
+      (cond (such_in f) (ltb f.frame_number (continues i (length m)) && bytes_eq f.continue_data (piece i m f.frame_number)) true)
 
   abbrev all_fine : List ArqFrame → Bool
   all_fine [] = true
@@ -174,18 +175,18 @@ module _ (h : ArqHeader) (i : MobileIdentity) (m : List ℕ) (x : ArqFrame) wher
   fine_lone f e o =
       let p : not (same f.identity i) ≡ true = sym (pick_begin _ _ o.kind) ∙ e in
       let q : same f.identity i ≡ true = rw o.identity (same_self i) in
-      true_false q (not-true (same f.identity i) p)
+      cc
 
   such_in_lem : (f : ArqFrame) → Such i x f → such_in f ≡ true
   such_in_lem f su =
-      both_true (eq-eqb f.header.partial_echo x.header.partial_echo su.echo)
-      (both_true (eq-eqb (usage_of f.header.channel) (usage_of x.header.channel) (ap usage_of su.channel)) (eq-eqb f.identity_type (type_of i) su.type))
+      and_from _ _ (eq-eqb f.header.partial_echo x.header.partial_echo su.echo)
+      (and_from _ _ (eq-eqb (usage_of f.header.channel) (usage_of x.header.channel) (ap usage_of su.channel)) (eq-eqb f.identity_type (type_of i) su.type))
 
   module _ (given : (k : ℕ) → k < 1 + continues i (length m) → frame_of h i m k ≡ gives (cut_frame h i m k)) where
     fine_piece : (f : ArqFrame) → fine f ≡ true → Such i x f → OfCut h i m f
     fine_piece f e su =
         let k : ℕ = f.frame_number in
-        let p = both (ltb k (continues i (length m))) (same_octets f.continue_data (piece i m k)) (sym (pick_continue _ _ su.kind ∙ pick_true _ _ (such_in_lem f su)) ∙ e) in
+        let p = both (ltb k (continues i (length m))) (bytes_eq f.continue_data (piece i m k)) (sym (pick_continue _ _ su.kind ∙ cond-true _ _ _ (such_in_lem f su)) ∙ e) in
         let l : k < continues i (length m) = ltb-true k (continues i (length m)) p.0 in
         record {
           k = k;
@@ -244,9 +245,13 @@ pub data Line : Type 0 where
   accepted : (map : ℕ) → Line
   message : (map : ℕ) → (octets : List ℕ) → Line
 
+-- the map held afterwards
+abbrev map_of : ArqReassembler → ℕ
+map_of s = option_map_or (λ t. t.received_frames) s.transaction 0
+
 abbrev line_of : Outcome Reception → ArqReassembler → List ℕ → Line
-line_of (gives (Accepted (deliveries.Message m) r)) s buffer = message s.received_frames (take m.length buffer)
-line_of (gives (Accepted deliveries.Nothing r)) s buffer = accepted s.received_frames
+line_of (gives (Accepted (Some m) r)) s buffer = message (map_of s) (take m.length buffer)
+line_of (gives (Accepted None r)) s buffer = accepted (map_of s)
 line_of (gives Ignored) s buffer = ignored
 line_of (refuses n) s buffer = refused n
 
@@ -261,9 +266,9 @@ lines_of s (p ∷ l) =
 pub answered : (lines_of (fresh receiver) pushes
     ≡ refused 1 ∷ refused 16 ∷ accepted 0 ∷ accepted 4 ∷ accepted 4 ∷ ignored ∷ ignored ∷ refused 15 ∷ refused 16 ∷ accepted 5 ∷ ignored ∷ ignored ∷ message 7 text ∷ accepted 7 ∷ [])
     × ((push_of (runs new_of push_of status_answer (fresh receiver) before) last.octets last.buffer).buffer ≡ text ++ replicate 270 7)
-    × (status_answer (runs new_of push_of status_answer (fresh receiver) before) ≡ Status (record { partial_echo = 5; received_frames = 5 }))
-    × (status_answer (runs new_of push_of status_answer (fresh receiver) longer) ≡ Status (record { partial_echo = 5; received_frames = 7 }))
-unfolding status_answer push_of push_frame push_continue finish assembled gathered slot_at put_slot same ones ones_in decode_of header_a_at address_at bits_of bits value octets field up_to layout any_set encode_of begin_frame continue_frame packed encodable in_range
+    × (status_answer (runs new_of push_of status_answer (fresh receiver) before) ≡ Some (record { partial_echo = 5; received_frames = 5 }))
+    × (status_answer (runs new_of push_of status_answer (fresh receiver) longer) ≡ Some (record { partial_echo = 5; received_frames = 7 }))
+unfolding push_of push_frame continued finish assembled gathered same ones ones_in decode_of header_a_at address_at bits_of bits value octets field up_to layout any_set encode_of begin_frame continue_frame packed encodable in_range
 answered = (refl, refl, refl, refl)
 
 -- ---- demand 3 of them
@@ -274,7 +279,7 @@ unfolding new_of encodable in_range
 made = refl
 
 -- what the claim says of a list that fits so, of any push and status
-pub holds_of : (push : ArqReassembler → List ℕ → List ℕ → Out) (status : ArqReassembler → StatusAnswer) → Claim new_of push status
+pub holds_of : (push : ArqReassembler → List ℕ → List ℕ → Out) (status : ArqReassembler → Option ArqStatus) → Claim new_of push status
     → (l : List Push) (fs : List ArqFrame) → heards l ≡ b ∷ fs → all_fine plain receiver text b fs ≡ true → Holds new_of push status receiver text b 4 (fresh receiver) l
 unfolding fits count_of encodable in_range
 holds_of push status claim l fs e t = claim receiver text b (fresh receiver) l made (fits l fs e t) 4 refl

@@ -5,12 +5,9 @@ pub mod Hearing
 pub mod Instance
 pub mod Laws
 pub mod Maps
-pub mod Octets
 pub mod Pieces
 pub mod PushCases
-pub mod Pushes
 pub mod Readings
-pub mod Slots
 pub mod Valid
 pub mod Whole
 pub mod Wrong

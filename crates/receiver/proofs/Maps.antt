@@ -1,5 +1,5 @@
 -- Laws of the received map: which numbers are in it, and what its count of ones says. Assumes nothing.
-use mathlib.Core.Path.{◌≡◌, refl, ap}
+use mathlib.Core.Path.{◌≡◌}
 use mathlib.Core.Logic.{◌⊎◌, inl, inr, ⊎_elim}
 use Prim.Native.Nat.{ℕ, zero, suc, ◌+◌, ◌-◌, ◌*◌, ◌/◌, ◌%◌, ◌^◌, ◌<◌, max}
 use native.Mathlib.Nat.{zero-div, pow-suc, div-eq_of_lt, one-mul, mul-mod_left, pow-succ', div-div-eq-div-mul, div-one}
@@ -8,6 +8,7 @@ use native.Mathlib.Omega.{arith}
 use lib.Bits.{bit_or, or_shr, or_step, or_lt}
 use lib.Pow.{pow-lt, pow-add, shl-shr}
 use lib.Count.{ones, ones-le, ones_step}
+use Rattle.std.proofs.lemmas.Bool.{cases_order}
 use Rattle.receiver.specs.Map.{bit_of, In, with_bit}
 
 -- ---- one number added
@@ -21,10 +22,7 @@ bit-or a b k = rw (or_shr a b k) (omega (arith, or_step (a / 2 ^ k) (b / 2 ^ k))
 
 -- two numbers are equal or differ one way round
 pub compared : (j k : ℕ) → (j < k) ⊎ ((j ≡ k) ⊎ (k < j))
-compared zero zero = inr (inl refl)
-compared zero (suc k) = inl (omega arith)
-compared (suc j) zero = inr (inr (omega arith))
-compared (suc j) (suc k) = ⊎_elim (λ h. inl (omega arith)) (⊎_elim (λ h. inr (inl (ap suc h))) (λ h. inr (inr (omega arith)))) (compared j k)
+compared j k = ⊎_elim (λ e. inr (inl e)) (⊎_elim inl (λ h. inr (inr h))) (cases_order j k)
 
 -- 2 ^ k has bit k and no other
 bit_here : (k : ℕ) → bit_of (2 ^ k) k ≡ 1
@@ -36,7 +34,7 @@ bit_below j d =
     rw e (mul-mod_left (2 ^ d) 2)
 
 bit_elsewhere : (k j : ℕ) → (j ≡ k → ⊥) → bit_of (2 ^ k) j ≡ 0
-bit_elsewhere k j ne = ⊎_elim below (⊎_elim (λ e. absurd (ne e)) above) (compared j k)
+bit_elsewhere k j ne = ⊎_elim (λ e. absurd (ne e)) (⊎_elim below above) (cases_order j k)
   where
     below : j < k → bit_of (2 ^ k) j ≡ 0
     below h = let e : k ≡ suc (k - suc j) + j = omega arith in rw e (bit_below j (k - suc j))

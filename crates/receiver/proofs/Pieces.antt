@@ -1,8 +1,9 @@
 -- The pieces of a cut, and the message put together of them. Assumes nothing.
-use mathlib.Core.Path.{◌≡◌, refl, sym, ap, ◌∙◌}
+use mathlib.Core.Path.{◌≡◌, refl, sym, ap, ap₂, ◌∙◌}
 use mathlib.Core.Bool.{Bool, false}
 use mathlib.Core.List.{List, [], ◌∷◌, ◌++◌}
 use Prim.Native.Nat.{ℕ, zero, suc, ◌+◌, ◌-◌, ◌*◌, ◌≤◌, ◌<◌}
+use native.Mathlib.Numerals.{add-one}
 use native.Mathlib.Omega.{arith}
 use lib.ListN.{length, take, drop, length-drop}
 use lib.Seq.{drop-drop, drop-nil}
@@ -15,6 +16,7 @@ use Rattle.arq.specs.Frame.{room}
 use Rattle.arq.specs.Cut.{continues}
 use Rattle.arq.proofs.Cuts.{count_holds}
 use Rattle.receiver.specs.Receiver.{slot_at, gathered}
+use Rattle.receiver.proofs.Assembled.{slot_bits, gathered_more}
 use Rattle.receiver.proofs.Heard.{piece}
 
 -- past the bits that were filled up no bit is set
@@ -32,30 +34,30 @@ module _ (i : MobileIdentity) (m : List ℕ) where
       bits-kept 10 79 (up_to 79 d) (length-up_to 79 d) (omega arith)
 
   -- slots that hold the cut's Continues hold the message's bits from the first one's on
-  gathered-bits : (slots : List ℕ) (n k : ℕ) → ((j : ℕ) → j < k + n → slot_at slots j ≡ piece i m j)
-      → gathered slots k n ≡ up_to (79 * n) (drop (room i + 79 * k) (bits_of m))
+  gathered-bits : (slots : List (List ℕ)) (n : ℕ) → n ≤ length slots → ((j : ℕ) → j < n → slot_at slots j ≡ piece i m j)
+      → gathered slots n ≡ up_to (79 * n) (drop (room i) (bits_of m))
   unfolding gathered up_to
-  gathered-bits slots zero k h = refl
-  gathered-bits slots (suc n) k h =
-      let d : List Bool = drop (room i + 79 * k) (bits_of m) in
-      let e : 79 * suc n ≡ 79 + 79 * n = omega arith in
-      let o : room i + 79 * suc k ≡ room i + 79 * k + 79 = omega arith in
-      let g : gathered slots (suc k) n ≡ up_to (79 * n) (drop 79 d) =
-      gathered-bits slots n (suc k) (λ j c. h j (omega arith)) ∙ ap (λ (x : ℕ). up_to (79 * n) (drop x (bits_of m))) o ∙ ap (up_to (79 * n)) (sym (drop-drop 79 (room i + 79 * k) (bits_of m))) in
-      rw (h k (omega arith), piece_bits k, g, e) (sym (up_to_add 79 (79 * n) d))
+  gathered-bits slots zero l h = refl
+  gathered-bits slots (suc n) l h =
+      let d : List Bool = drop (room i) (bits_of m) in
+      let e : 79 * suc n ≡ 79 * n + 79 = omega arith in
+      let s : slot_bits (slot_at slots n) ≡ up_to 79 (drop (79 * n) d) =
+      ap slot_bits (h n (omega arith)) ∙ piece_bits n ∙ ap (up_to 79) (sym (drop-drop (79 * n) (room i) (bits_of m))) in
+      ap (gathered slots) (sym (add-one n))
+      ∙ gathered_more slots n (omega arith)
+      ∙ ap₂ (λ (a b : List Bool). a ++ b) (gathered-bits slots n (omega arith) (λ j c. h j (omega arith))) s
+      ∙ sym (up_to_add (79 * n) 79 d)
+      ∙ ap (λ (k : ℕ). up_to k d) (sym e)
 
   -- and with the Begin's bits they are the message
-  pub message_whole : (slots : List ℕ) → Octets m → ((k : ℕ) → k < continues i (length m) → slot_at slots k ≡ piece i m k)
-      → octets (length m) (take (8 * length m) (up_to (room i) (bits_of m) ++ gathered slots 0 (continues i (length m)))) ≡ m
-  message_whole slots oc h =
+  pub message_whole : (slots : List (List ℕ)) → continues i (length m) ≤ length slots → Octets m → ((k : ℕ) → k < continues i (length m) → slot_at slots k ≡ piece i m k)
+      → octets (length m) (take (8 * length m) (up_to (room i) (bits_of m) ++ gathered slots (continues i (length m)))) ≡ m
+  message_whole slots few oc h =
       let n : ℕ = continues i (length m) in
-      let z : room i + 79 * 0 ≡ room i = omega arith in
-      let g : gathered slots 0 n ≡ up_to (79 * n) (drop (room i) (bits_of m)) =
-      gathered-bits slots n 0 (λ j c. h j (omega arith)) ∙ ap (λ (x : ℕ). up_to (79 * n) (drop x (bits_of m))) z in
       let l : length (bits_of m) ≤ room i + 79 * n = omega (arith, length-bits_of m, count_holds i (length m)) in
       let all : take (8 * length m) (up_to (room i + 79 * n) (bits_of m)) ≡ bits_of m =
       ap (λ (x : ℕ). take x (up_to (room i + 79 * n) (bits_of m))) (sym (length-bits_of m)) ∙ take-up_to (room i + 79 * n) (bits_of m) l in
-      rw (g, ← up_to_add (room i) (79 * n) (bits_of m), all) (octets-bits_of m oc)
+      rw (gathered-bits slots n few h, ← up_to_add (room i) (79 * n) (bits_of m), all) (octets-bits_of m oc)
 
   -- a needed Continue has no filler bit set past the message's end
   pub piece_filler : (k : ℕ) → any_set (drop (8 * length m - (room i + 79 * k)) (take 79 (bits_of (piece i m k)))) ≡ false

@@ -1,18 +1,22 @@
 -- Every state that the constructor, push and reset make is valid. Assumes nothing.
 use mathlib.Core.Path.{◌≡◌, refl, sym, ap, ◌∙◌}
 use mathlib.Core.Logic.{⊎_elim}
-use mathlib.Core.Bool.{true, false, not}
+use mathlib.Core.Bool.{Bool, true, false, not}
 use mathlib.Core.List.{List, [], ◌∷◌}
-use Prim.Native.Nat.{ℕ, ◌+◌, ◌*◌, ◌≤◌, ◌<◌}
+use Prim.Native.Nat.{ℕ, zero, suc, ◌^◌, ◌≤◌, ◌<◌}
 use native.Mathlib.Omega.{arith}
 use lib.Dec.{eqb}
 use lib.Count.{ones}
-use lib.Pow.{pow_pos}
-use lib.ListN.{length}
+use lib.Pow.{pow_pos, pow_mono}
+use lib.ListN.{length, take, drop, replicate, length-set, length-take}
 use borrow.Author.Tests.{eq-eqb, eqb-true, not-false}
-use Rattle.field.specs.Bits.{Octets}
+use Rattle.std.specs.Prelude.{Option}
+use Rattle.std.specs.Option.{ForSome}
+use Rattle.std.proofs.lemmas.Bool.{cases_Bool}
+use Rattle.std.proofs.lemmas.List.Elements.{All-replicate, All-set}
+use Rattle.field.specs.Bits.{Octets, octets}
 use Rattle.field.specs.Layout.{up_to}
-use Rattle.field.proofs.Laws.{length-octets}
+use Rattle.field.proofs.Laws.{value_lt, length-octets}
 use Rattle.rach.specs.Identity.{encodable}
 use Rattle.rach.specs.declared.MobileIdentity.{MobileIdentity}
 use Rattle.rach.proofs.Laws.{both}
@@ -20,36 +24,25 @@ use Rattle.spach.specs.Refusal.{Outcome, gives, refuses}
 use Rattle.spach.proofs.Outcomes.{passed}
 use Rattle.arq.specs.declared.ArqFrame.{ArqFrame}
 use Rattle.arq.specs.Frame.{begin_data_lem, continue_data_lem}
-use Rattle.arq.specs.Cut.{continues}
-use Rattle.arq.proofs.Cuts.{count_most}
+use Rattle.receiver.specs.declared.transaction.Transaction.{Transaction}
 use Rattle.receiver.specs.declared.ArqReassembler.{ArqReassembler}
+use Rattle.receiver.specs.declared.SingleMessage.{SingleMessage}
+use Rattle.receiver.specs.declared.StatusRequest.{StatusRequest}
 use Rattle.receiver.specs.declared.Reception.{Reception}
 use Rattle.receiver.specs.Map.{In, with_bit}
-use Rattle.receiver.specs.Receiver.{Out, fresh, new_of, needed, replaced_by, stored, marked, due, finish, push_frame, push_of, reset_of, status_answer}
+use Rattle.receiver.specs.Receiver.{Out, fresh, new_of, holding, needed, replaced_by, stored, marked, due, finish, push_frame, push_of, reset_of, status_answer}
 use Rattle.receiver.specs.Demand3.{Push, handed, runs}
-use Rattle.receiver.specs.Valid.{Valid}
+use Rattle.receiver.specs.Valid.{Held, Valid}
 use Rattle.receiver.proofs.Maps.{in_kept, added_lt, ones_all, all_ones}
-use Rattle.receiver.proofs.Slots.{length-put, octets-put, octets-octets, octets-zeros}
 use Rattle.receiver.proofs.Heard.{Decoded, decoded}
-use Rattle.receiver.proofs.PushCases.{by_bool, true_false, frame_ways, finish_ways, push_ways}
+use Rattle.receiver.proofs.PushCases.{Taken, frame_ways, finish_ways, push_ways}
+use Rattle.receiver.proofs.Laws.{GivesMessage, DeliveryOf, push_delivers}
 
 -- ---- made
 
 -- what the constructor makes of an accepted identity
 pub valid_fresh : (i : MobileIdentity) → encodable i ≡ true → Valid (fresh i)
-valid_fresh i e =
-    record {
-      identity = e;
-      echo = omega arith;
-      count = omega arith;
-      begin_size = refl;
-      begin_octets = octets-zeros 7;
-      slots_size = refl;
-      slots_octets = octets-zeros 260;
-      low = pow_pos (continues i 0);
-      map_empty = λ h. refl;
-      undelivered = λ h. refl;
-    }
+valid_fresh i e = record { identity = e; held = λ t h. absurd (cc) }
 
 -- so every receiver starts valid
 pub valid_new : (i : MobileIdentity) (s : ArqReassembler) → new_of i ≡ gives s → Valid s
@@ -63,64 +56,77 @@ valid_new i s e =
 pub valid_reset : (s : ArqReassembler) → Valid s → Valid (reset_of s)
 valid_reset s v = valid_fresh s.identity v.identity
 
+-- ---- octets
+
+-- bits as octets are octets
+octets-octets : (n : ℕ) (bs : List Bool) → Octets (octets n bs)
+unfolding octets
+octets-octets zero bs i = omega arith
+octets-octets (suc n) bs zero =
+    let l : length (take 8 bs) ≤ 8 = omega (arith, length-take 8 bs) in
+    omega (arith, value_lt (take 8 bs), pow_mono {i = length (take 8 bs)} {j = 8} l)
+octets-octets (suc n) bs (suc i) = octets-octets n (drop 8 bs) i
+
+-- zeros are octets
+octets-zeros : (n : ℕ) → Octets (replicate n 0)
+octets-zeros zero i = omega arith
+octets-zeros (suc n) zero = omega arith
+octets-zeros (suc n) (suc i) = octets-zeros n i
+
 -- ---- pushed
 
-module _ (s : ArqReassembler) (v : Valid s) (f : ArqFrame) (d : Decoded f) where
-  -- a decoded Begin
-  pub valid_replaced : Valid (replaced_by s f)
-  valid_replaced =
+module _ (i : MobileIdentity) (f : ArqFrame) (d : Decoded f) where
+  -- what a decoded Begin opens
+  pub held_replaced : Held i (replaced_by f)
+  held_replaced =
       record {
-        identity = v.identity;
         echo = d.echo;
         count = d.count;
         begin_size = ap length d.begin_data ∙ length-octets 7 (up_to 56 (begin_data_lem f));
         begin_octets = rw d.begin_data (octets-octets 7 (up_to 56 (begin_data_lem f)));
         slots_size = refl;
-        slots_octets = octets-zeros 260;
-        low = pow_pos (continues s.identity f.message_octets);
-        map_empty = λ h. refl;
-        undelivered = λ h. refl;
+        slot_size = All-replicate (λ d. length d ≡ 10) 26 (replicate 10 0) refl;
+        slot_octets = All-replicate (λ d. Octets d) 26 (replicate 10 0) (octets-zeros 10);
+        low = pow_pos (needed i (replaced_by f));
       }
 
-  -- a decoded Continue, with a number that is needed
-  pub valid_stored : s.transaction.held ≡ true → f.frame_number < needed s → Valid (stored s f)
-  valid_stored held l =
-      let short : s.transaction.message_octets ≤ 255 = omega (arith, v.count) in
-      let inside : 10 * f.frame_number + 10 ≤ length s.slots = omega (arith, v.slots_size, count_most s.identity s.transaction.message_octets short) in
+  -- what a decoded Continue, with a number that is needed, makes of it
+  pub held_stored : (t : Transaction) → Held i t → f.frame_number < needed i t → Held i (stored t f)
+  held_stored t h l =
       let ten : length f.continue_data ≡ 10 = ap length d.continue_data ∙ length-octets 10 (up_to 80 (continue_data_lem f)) in
       let octs : Octets f.continue_data = rw d.continue_data (octets-octets 10 (up_to 80 (continue_data_lem f))) in
       record {
-        identity = v.identity;
-        echo = v.echo;
-        count = v.count;
-        begin_size = v.begin_size;
-        begin_octets = v.begin_octets;
-        slots_size = length-put s.slots f.frame_number f.continue_data inside ten ∙ v.slots_size;
-        slots_octets = octets-put s.slots f.frame_number f.continue_data v.slots_octets octs;
-        low = added_lt (needed s) s.received_frames f.frame_number v.low l;
-        map_empty = λ h. absurd (true_false held h);
-        undelivered = λ h. absurd (true_false held h);
+        echo = h.echo;
+        count = h.count;
+        begin_size = h.begin_size;
+        begin_octets = h.begin_octets;
+        slots_size = length-set t.slots f.frame_number f.continue_data ∙ h.slots_size;
+        slot_size = All-set (λ d. length d ≡ 10) t.slots f.frame_number f.continue_data ten h.slot_size;
+        slot_octets = All-set (λ d. Octets d) t.slots f.frame_number f.continue_data octs h.slot_octets;
+        low = added_lt (needed i t) t.received_frames f.frame_number h.low l;
       }
 
 -- a delivery
-valid_marked : (s : ArqReassembler) → s.transaction.held ≡ true → Valid s → Valid (marked s)
-valid_marked s held v =
+held_marked : (i : MobileIdentity) (t : Transaction) → Held i t → Held i (marked t)
+held_marked i t h =
     record {
-      identity = v.identity;
-      echo = v.echo;
-      count = v.count;
-      begin_size = v.begin_size;
-      begin_octets = v.begin_octets;
-      slots_size = v.slots_size;
-      slots_octets = v.slots_octets;
-      low = v.low;
-      map_empty = v.map_empty;
-      undelivered = λ h. absurd (true_false held h);
+      echo = h.echo;
+      count = h.count;
+      begin_size = h.begin_size;
+      begin_octets = h.begin_octets;
+      slots_size = h.slots_size;
+      slot_size = h.slot_size;
+      slot_octets = h.slot_octets;
+      low = h.low;
     }
 
+-- a receiver that holds it
+valid_holding : (i : MobileIdentity) (t : Transaction) → encodable i ≡ true → Held i t → Valid (holding i t)
+valid_holding i t e h = record { identity = e; held = λ u q. let z : t ≡ u = cc in rw (← z) h }
+
 -- an accepted frame, delivered or not
-pub valid_finish : (f : ArqFrame) (s : ArqReassembler) (b : List ℕ) → s.transaction.held ≡ true → Valid s → Valid (finish f s b).receiver
-valid_finish f s b held v = finish_ways f s b (λ o. Valid o.receiver) (λ e. valid_marked s held v) (λ e. v)
+valid_finish : (f : ArqFrame) (i : MobileIdentity) (t : Transaction) (b : List ℕ) → encodable i ≡ true → Held i t → Valid (finish f i t b).receiver
+valid_finish f i t b e h = finish_ways f i t b (λ o. Valid o.receiver) (λ d. valid_holding i (marked t) e (held_marked i t h)) (λ d. valid_holding i t e h)
 
 -- every push keeps it, whatever its octets and buffer
 pub valid_push : (s : ArqReassembler) (xs b : List ℕ) → Valid s → Valid (push_of s xs b).receiver
@@ -128,8 +134,14 @@ valid_push s xs b v = push_ways s xs b (λ o. Valid o.receiver) (λ l. v) (λ n 
   where
     pushed : (f : ArqFrame) → Decoded f → Valid (push_frame s b f).receiver
     pushed f d =
-        frame_ways s f b (λ o. Valid o.receiver) (λ c. valid_finish f (replaced_by s f) b refl (valid_replaced s v f d)) (λ c. v) (λ c. v) (λ c. v) (λ c. v)
-        (λ c. valid_finish f (stored s f) b c.mine.held (valid_stored s v f d c.mine.held c.low))
+        frame_ways s f b (λ o. Valid o.receiver) (λ c. valid_finish f s.identity (replaced_by f) b v.identity (held_replaced s.identity f d)) (λ c. v) (λ c. v) (λ c. v) (λ c. v)
+        (λ c. valid_finish f s.identity (stored c.transaction f) b v.identity (held_stored s.identity f d c.transaction (v.held c.transaction c.mine.held) c.low))
+
+-- a message delivered is no longer than its Begin says
+pub message_short : (s : ArqReassembler) (xs b : List ℕ) → Valid s → (d : SingleMessage) (r : Option StatusRequest) → GivesMessage d r (push_of s xs b) → d.length < 2 ^ 8
+message_short s xs b v d r e =
+    let y : DeliveryOf b d (push_of s xs b) = push_delivers d r s xs b e in
+    rw y.octets ((valid_push s xs b v).held y.transaction y.held).count
 
 -- what holds of the state given and of the one returned holds of the one that goes on
 pub handed_either : (P : ArqReassembler → Type 0) (s r : ArqReassembler) (o : Outcome Reception) → P s → P r → P (handed s r o)
@@ -145,32 +157,38 @@ valid_runs s (p ∷ l) v =
 
 -- ---- delivered
 
--- while a transaction is held, its message is marked as delivered exactly if all needed numbers are in the map
+-- the message of the transaction held is marked as delivered exactly if all needed numbers are in the map
 abbrev pub Done : ArqReassembler → Type 0
-Done s = s.transaction.held ≡ true → s.delivered ≡ eqb (ones s.received_frames) (needed s)
+Done s = ForSome s.transaction (λ t. t.delivered ≡ eqb (ones t.received_frames) (needed s.identity t))
 
-done-finish : (f : ArqFrame) (s : ArqReassembler) (b : List ℕ) → (s.delivered ≡ true → eqb (ones s.received_frames) (needed s) ≡ true) → Done (finish f s b).receiver
-done-finish f s b was = finish_ways f s b (λ o. Done o.receiver) (λ e h. sym (both (not s.delivered) _ e).1) (λ e h. not_due e)
+done_holding : (i : MobileIdentity) (t : Transaction) → t.delivered ≡ eqb (ones t.received_frames) (needed i t) → Done (holding i t)
+done_holding i t e u q = let z : t ≡ u = cc in rw (← z) e
+
+done-finish : (f : ArqFrame) (i : MobileIdentity) (t : Transaction) (b : List ℕ) → (t.delivered ≡ true → eqb (ones t.received_frames) (needed i t) ≡ true) → Done (finish f i t b).receiver
+done-finish f i t b was =
+    finish_ways f i t b (λ o. Done o.receiver) (λ e. done_holding i (marked t) (sym (both (not t.delivered) _ e).1)) (λ e. done_holding i t (not_due e))
   where
-    not_due : due s ≡ false → s.delivered ≡ eqb (ones s.received_frames) (needed s)
-    not_due e = ⊎_elim (λ d. d ∙ sym (was d)) (λ (d : s.delivered ≡ false). d ∙ sym (rw d at e)) (by_bool s.delivered)
+    not_due : due i t ≡ false → t.delivered ≡ eqb (ones t.received_frames) (needed i t)
+    not_due e = ⊎_elim (λ d. d ∙ sym (was d)) (λ (d : t.delivered ≡ false). d ∙ sym (rw d at e)) (cases_Bool t.delivered)
 
 -- so it is from the start
 pub done-fresh : (i : MobileIdentity) → Done (fresh i)
-done-fresh i h = absurd (true_false h refl)
+done-fresh i t h = absurd (cc)
 
 -- every push keeps it
 pub done_push : (s : ArqReassembler) (xs b : List ℕ) → Valid s → Done s → Done (push_of s xs b).receiver
 done_push s xs b v t = push_ways s xs b (λ o. Done o.receiver) (λ l. t) (λ n e. t) (λ f e. pushed f)
   where
-    more : (f : ArqFrame) → s.transaction.held ≡ true → f.frame_number < needed s → s.delivered ≡ true → eqb (ones (with_bit s.received_frames f.frame_number)) (needed s) ≡ true
-    more f h l e =
+    more : (f : ArqFrame) (c : Taken s f) → c.transaction.delivered ≡ true → eqb (ones (with_bit c.transaction.received_frames f.frame_number)) (needed s.identity c.transaction) ≡ true
+    more f c e =
         let k : ℕ = f.frame_number in
-        let w : ℕ = s.received_frames in
-        let all : (j : ℕ) → j < needed s → In j w = ones_all (needed s) w v.low (eqb-true (ones w) (needed s) (sym (t h) ∙ e)) in
-        eq-eqb (ones (with_bit w k)) (needed s) (all_ones (needed s) (with_bit w k) (added_lt (needed s) w k v.low l) (λ j c. in_kept w k j (all j c)))
+        let w : ℕ = c.transaction.received_frames in
+        let n : ℕ = needed s.identity c.transaction in
+        let low : w < 2 ^ n = (v.held c.transaction c.mine.held).low in
+        let all : (j : ℕ) → j < n → In j w = ones_all n w low (eqb-true (ones w) n (sym (t c.transaction c.mine.held) ∙ e)) in
+        eq-eqb (ones (with_bit w k)) n (all_ones n (with_bit w k) (added_lt n w k low c.low) (λ j l. in_kept w k j (all j l)))
 
     pushed : (f : ArqFrame) → Done (push_frame s b f).receiver
     pushed f =
-        frame_ways s f b (λ o. Done o.receiver) (λ c. done-finish f (replaced_by s f) b (λ e. absurd (true_false e refl))) (λ c. t) (λ c. t) (λ c. t) (λ c. t)
-        (λ c. done-finish f (stored s f) b (more f c.mine.held c.low))
+        frame_ways s f b (λ o. Done o.receiver) (λ c. done-finish f s.identity (replaced_by f) b (λ e. cc)) (λ c. t) (λ c. t) (λ c. t) (λ c. t)
+        (λ c. done-finish f s.identity (stored c.transaction f) b (more f c))

@@ -7,6 +7,8 @@ use Prim.Native.Nat.{ℕ, ◌+◌, ◌-◌, ◌≤◌, ◌<◌}
 use native.Mathlib.Omega.{arith}
 use lib.Dec.{ltb}
 use lib.ListN.{length}
+use Rattle.std.specs.Prelude.{Option, Some}
+use Rattle.std.proofs.lemmas.Bool.{cases_Bool, cond-true, cond-false}
 use Rattle.field.specs.Bits.{Octets}
 use Rattle.rach.specs.Identity.{encodable}
 use Rattle.rach.specs.declared.MobileIdentity.{MobileIdentity}
@@ -17,15 +19,11 @@ use Rattle.arq.specs.declared.ArqFrame.{ArqFrame}
 use Rattle.arq.specs.Decode.{decode_of}
 use Rattle.receiver.specs.declared.ArqReassembler.{ArqReassembler}
 use Rattle.receiver.specs.declared.SingleMessage.{SingleMessage}
-use Rattle.receiver.specs.declared.Delivery.TheVariants as deliveries
-use Rattle.receiver.specs.declared.Request.{Request}
-use Rattle.receiver.specs.declared.Reception.TheVariants.{Accepted}
+use Rattle.receiver.specs.declared.StatusRequest.{StatusRequest}
 use Rattle.receiver.specs.declared.ArqStatus.{ArqStatus}
-use Rattle.receiver.specs.declared.StatusAnswer.TheVariants.{Status}
-use Rattle.receiver.specs.Receiver.{Out, fresh, new_of, push_of, push_decoded, push_frame, refusal, status_answer}
+use Rattle.receiver.specs.Receiver.{Out, fresh, holding, new_of, push_of, push_decoded, push_frame, refusal, status_answer}
 use Rattle.receiver.specs.Demand3.{Push, frame_in, heard, heards, BeginFor, CutFrom, Such, HeardNo, Fitting, Delivers, Silent, handed, runs, Completes, At, Holds, Demand3}
 use Rattle.receiver.proofs.Heard.{Decoded, decoded, count-is}
-use Rattle.receiver.proofs.PushCases.{by_bool, pick_true, pick_false, kinds_apart}
 use Rattle.receiver.proofs.Laws.{GivesMessage, DeliveryOf, push_delivers}
 use Rattle.receiver.proofs.Hearing.{Opened, wanted, after, Inv, Stepped, Good, Begun, step, begin_step}
 
@@ -56,11 +54,11 @@ pub record Hears (s : ArqReassembler) (p : Push) : Type 0 where
 
 view : (s : ArqReassembler) (p : Push) → Quiet s p ⊎ Hears s p
 unfolding push_of heard
-view s p = ⊎_elim (λ e. inl (record { nothing = pick_true _ _ e; number = 16; refused = pick_true _ _ e })) (λ e. long e (decode_of p.octets) refl) (by_bool (ltb (length p.buffer) 255))
+view s p = ⊎_elim (λ e. inl (record { nothing = cond-true _ _ _ e; number = 16; refused = cond-true _ _ _ e })) (λ e. long e (decode_of p.octets) refl) (cases_Bool (ltb (length p.buffer) 255))
   where
     long : ltb (length p.buffer) 255 ≡ false → (d : Outcome ArqFrame) → decode_of p.octets ≡ d → Quiet s p ⊎ Hears s p
-    long e (gives f) q = inr (record { frame = f; one = pick_false _ _ e ∙ ap frame_in q; pushed = pick_false _ _ e ∙ ap (push_decoded s p.buffer) q; decoded = decoded p.octets f q })
-    long e (refuses n) q = inl (record { nothing = pick_false _ _ e ∙ ap frame_in q; number = n; refused = pick_false _ _ e ∙ ap (push_decoded s p.buffer) q })
+    long e (gives f) q = inr (record { frame = f; one = cond-false _ _ _ e ∙ ap frame_in q; pushed = cond-false _ _ _ e ∙ ap (push_decoded s p.buffer) q; decoded = decoded p.octets f q })
+    long e (refuses n) q = inl (record { nothing = cond-false _ _ _ e ∙ ap frame_in q; number = n; refused = cond-false _ _ _ e ∙ ap (push_decoded s p.buffer) q })
 
 heards-append : (a c : List Push) → heards (a ++ c) ≡ heards a ++ heards c
 heards-append [] c = refl
@@ -111,7 +109,7 @@ module _ (h : ArqHeader) (i : MobileIdentity) (m : List ℕ) (b : ArqFrame) wher
       quiet-run q = rw (quiet_state s p q, heards_quiet p l q.nothing) (ih hs s v (λ f j. g f (rw (heards_quiet p l q.nothing) j)))
 
       loud_state : (x : Hears s p) → Inv i m b (hs ++ x.frame ∷ []) (after s (push s p))
-      loud_state x = rw x.pushed (step oc size x.frame p.buffer x.decoded v (g x.frame (rw (heards_loud p l x.frame x.one) (mathlib.Core.List.Memᴰ.head refl)))).inv
+      loud_state x = rw x.pushed (step oc size x.frame p.buffer x.decoded (g x.frame (rw (heards_loud p l x.frame x.one) (mathlib.Core.List.Memᴰ.head refl))) v).inv
 
       loud_run : Hears s p → Inv i m b (hs ++ heards (p ∷ l)) (run (after s (push s p)) l)
       loud_run x =
@@ -130,7 +128,7 @@ module _ (h : ArqHeader) (i : MobileIdentity) (m : List ℕ) (b : ArqFrame) wher
     begin_state : BeginFor i b → CutFrom h i m b → (p : Push) (x : Hears (fresh i) p) → x.frame ≡ b → Inv i m b (b ∷ []) (after (fresh i) (push (fresh i) p))
     begin_state own cut p x same =
         let w : push (fresh i) p ≡ push_frame (fresh i) p.buffer b = x.pushed ∙ ap (push_frame (fresh i) p.buffer) same in
-        rw w (begin_step oc (subst Decoded same x.decoded) own cut p.buffer).inv
+        rw w (begin_step oc size (subst Decoded same x.decoded) own cut p.buffer).inv
 
     -- from a fresh receiver on, the Begin heard first
     from_start : BeginFor i b → CutFrom h i m b → (l : List Push) (r : List ArqFrame) → heards l ≡ b ∷ r → Goods r → Inv i m b (heards l) (run (fresh i) l)
@@ -222,11 +220,11 @@ module _ {i : MobileIdentity} {m : List ℕ} {b : ArqFrame} {l : List Push} (fit
         w' = x.pushed ∙ ap (λ (x : ArqReassembler). push_frame x p.buffer f) (still a (fresh i) z) ∙ ap (push_frame (fresh i) p.buffer) is_b
 
         bg : Begun i m b p.buffer (push before p)
-        bg = rw w' (begin_step fits.octets (subst Decoded is_b x.decoded) fits.own fits.cut-from p.buffer)
+        bg = rw w' (begin_step fits.octets fits.size (subst Decoded is_b x.decoded) fits.own fits.cut-from p.buffer)
 
         given : Comes → Delivers m p.buffer (push before p)
         given (inl w) = bg.all w.none_needed
-        given (inr w) = absurd (kinds_apart fits.own.kind (subst (λ (y : ArqFrame). Such i b y) (heard_one f w.frame x.one w.hears ∙ is_b) w.such).kind)
+        given (inr w) = let z : Such i b b = subst (λ (y : ArqFrame). Such i b y) (heard_one f w.frame x.one w.hears ∙ is_b) w.such in cc (fits.own.kind, z.kind)
 
         silent : (Comes → ⊥) → Silent p.buffer (push before p)
         silent no-comp = bg.more (λ nz. no-comp (inl (record { first = z; hears = rw is_b at x.one; none_needed = nz })))
@@ -246,8 +244,8 @@ module _ {i : MobileIdentity} {m : List ℕ} {b : ArqFrame} {l : List Push} (fit
             let j : Memᴰ f (r ++ (f ∷ heards c)) = mathlib.Core.List.Memᴰ.append_right r (mathlib.Core.List.Memᴰ.head refl) in
             rw (tail-eq_of_cons-eq joined) at j
 
-        st : Stepped i m b (heards a) before f p.buffer (push before p)
-        st = rw x.pushed (step fits.octets fits.size f p.buffer x.decoded v (good_rest f among))
+        st : Stepped i m b (heards a) before v.transaction f p.buffer (push before p)
+        st = rw x.pushed (step fits.octets fits.size f p.buffer x.decoded (good_rest f among) v)
 
         given : Comes → Delivers m p.buffer (push before p)
         given (inl w) = absurd (nil≢cons (sym w.first ∙ z))
@@ -285,18 +283,15 @@ module _ {i : MobileIdentity} {m : List ℕ} {b : ArqFrame} {l : List Push} (fit
 -- ---- the claim
 
 -- what `status` gives
-status_is : {i : MobileIdentity} {m : List ℕ} {b : ArqFrame} {hs : List ArqFrame} (s : ArqReassembler) → Inv i m b hs s
-    → status_answer s ≡ Status (record { partial_echo = b.header.partial_echo; received_frames = s.received_frames })
-unfolding status_answer
-status_is s v = rw (v.core.opened.held, v.core.opened.echo)
+status_is : {i : MobileIdentity} {m : List ℕ} {b : ArqFrame} {hs : List ArqFrame} (s : ArqReassembler) (v : Inv i m b hs s)
+    → status_answer s ≡ Some (record { partial_echo = b.header.partial_echo; received_frames = v.transaction.received_frames })
+status_is s v = rw (v.held, v.core.opened.echo)
 
 map_in : {i : MobileIdentity} {m : List ℕ} {b : ArqFrame} {l : List Push} (f : Fitting i m b l) (e w : ℕ)
-    → status_answer (run (fresh i) l) ≡ Status (record { partial_echo = e; received_frames = w }) → w ≡ (run (fresh i) l).received_frames
+    → status_answer (run (fresh i) l) ≡ Some (record { partial_echo = e; received_frames = w }) → w ≡ (end_inv f).transaction.received_frames
 map_in {i} {b = b} {l = l} f e w x =
-    let r : ArqReassembler = run (fresh i) l in
-    let y : Status (record { partial_echo = e; received_frames = w }) ≡ Status (record { partial_echo = b.header.partial_echo; received_frames = r.received_frames }) =
-    sym x ∙ status_is r (end_inv f) in
-    let z : ◌≡◌ {A = ArqStatus} (record { partial_echo = e; received_frames = w }) (record { partial_echo = b.header.partial_echo; received_frames = r.received_frames }) = cc in
+    let v = end_inv f in
+    let z : ◌≡◌ {A = ArqStatus} (record { partial_echo = e; received_frames = w }) (record { partial_echo = b.header.partial_echo; received_frames = v.transaction.received_frames }) = cc (sym x ∙ status_is (run (fresh i) l) v) in
     ap (λ (t : ArqStatus). t.received_frames) z
 
 module _ (i : MobileIdentity) (m : List ℕ) (b : ArqFrame) (l : List Push) (f : Fitting i m b l) where
@@ -308,7 +303,7 @@ module _ (i : MobileIdentity) (m : List ℕ) (b : ArqFrame) (l : List Push) (f :
         map_is = λ some-heard.
             let s : ArqReassembler = run (fresh i) (a ++ p ∷ []) in
             let v : Inv i m b (heards (a ++ p ∷ [])) s = part_inv f (a ++ p ∷ []) c (e ∙ sym (append_assoc a (p ∷ []) c)) some-heard in
-            (s.received_frames, status_is s v, λ k. (v.core.sound k, v.core.whole k));
+            (v.transaction.received_frames, status_is s v, λ k. (v.core.sound k, v.core.whole k));
         completing = λ q. now.completing (rw one at q);
         others = λ q. now.others (rw one at q);
       }
@@ -318,7 +313,7 @@ module _ (i : MobileIdentity) (m : List ℕ) (b : ArqFrame) (l : List Push) (f :
       record {
         each = each_at;
         second = λ s₁ made l₁ f₁ sub e w e₁ w₁ x x₁ k j.
-            let x₂ : status_answer (run (fresh i) l₁) ≡ Status (record { partial_echo = e₁; received_frames = w₁ }) = rw (made-fresh i s₁ made) at x₁ in
+            let x₂ : status_answer (run (fresh i) l₁) ≡ Some (record { partial_echo = e₁; received_frames = w₁ }) = rw (made-fresh i s₁ made) at x₁ in
             let q : HeardNo i b (heards l) k = (end_inv f).core.sound k (rw (map_in f e w x) at j) in
             rw (map_in f₁ e₁ w₁ x₂) ((end_inv f₁).core.whole k (q.0, heard_sub sub q.0 q.1, q.2, q.3));
       }
@@ -335,14 +330,11 @@ run_last s [] p = refl
 run_last s (q ∷ a) p = run_last (after s (push s q)) a p
 
 -- a push that is answered by a message heard something
-message_heard : (s : ArqReassembler) (a : List Push) (p : Push) (d : SingleMessage) (r : Request) → GivesMessage d r (push s p) → heards (a ++ p ∷ []) ≡ [] → ⊥
+message_heard : (s : ArqReassembler) (a : List Push) (p : Push) (d : SingleMessage) (r : Option StatusRequest) → GivesMessage d r (push s p) → heards (a ++ p ∷ []) ≡ [] → ⊥
 message_heard s a p d r g z = ⊎_elim quiet loud (view s p)
   where
     quiet : Quiet s p → ⊥
-    quiet q =
-        let e : refuses q.number ≡ gives (Accepted (deliveries.Message d) r) = sym (ap (λ (o : Out). o.outcome) q.refused) ∙ g in
-        let x : ◌≡◌ {A = ℕ} 0 1 = cc in
-        omega arith
+    quiet q = let e = ap (λ (o : Out). o.outcome) q.refused in cc g
 
     some : (fs : List ArqFrame) (f : ArqFrame) → fs ++ f ∷ [] ≡ [] → ⊥
     some [] f y = cons≢nil y
@@ -353,7 +345,7 @@ message_heard s a p d r g z = ⊎_elim quiet loud (view s p)
 
 -- in a list as demand 3 has it, every message that is delivered has the Begin's channel and flags, and the receiver's identity
 pub delivers_as_replaced : (i : MobileIdentity) (m : List ℕ) (b : ArqFrame) (s : ArqReassembler) (l : List Push) → new_of i ≡ gives s → Fitting i m b l
-    → (a : List Push) (p : Push) (c : List Push) → l ≡ a ++ p ∷ c → (d : SingleMessage) (r : Request) → GivesMessage d r (push (run s a) p)
+    → (a : List Push) (p : Push) (c : List Push) → l ≡ a ++ p ∷ c → (d : SingleMessage) (r : Option StatusRequest) → GivesMessage d r (push (run s a) p)
     → (d.channel ≡ b.header.channel) × (d.flags ≡ b.header.flags) × (d.identity ≡ i)
 delivers_as_replaced i m b s l made f a p c e d r g = go s (made-fresh i s made) g
   where
@@ -361,10 +353,11 @@ delivers_as_replaced i m b s l made f a p c e d r g = go s (made-fresh i s made)
     from_fresh x =
         let o : Out = push (run (fresh i) a) p in
         let v = part_inv f (a ++ p ∷ []) c (e ∙ sym (append_assoc a (p ∷ []) c)) (message_heard (run (fresh i) a) a p d r x) in
-        let q : run (fresh i) (a ++ p ∷ []) ≡ o.receiver = run_last (fresh i) a p ∙ ap (handed (run (fresh i) a) o.receiver) x in
-        let t : Opened i m b o.receiver.transaction o.receiver.identity = rw q at v.core.opened in
+        let q : o.receiver ≡ holding i v.transaction = sym (run_last (fresh i) a p ∙ ap (handed (run (fresh i) a) o.receiver) x) ∙ v.held in
         let y : DeliveryOf p.buffer d o = push_delivers d r (run (fresh i) a) p.octets p.buffer x in
-        (y.channel ∙ t.channel, y.flags ∙ t.flags, y.identity ∙ t.identity)
+        let z : y.transaction ≡ v.transaction = cc (sym y.held ∙ ap (λ (s : ArqReassembler). s.transaction) q) in
+        let t : Opened i m b y.transaction = rw z v.core.opened in
+        (y.channel ∙ t.channel, y.flags ∙ t.flags, y.identity ∙ ap (λ (s : ArqReassembler). s.identity) q)
 
     go : (t : ArqReassembler) → t ≡ fresh i → GivesMessage d r (push (run t a) p) → (d.channel ≡ b.header.channel) × (d.flags ≡ b.header.flags) × (d.identity ≡ i)
     go t q x = from_fresh (rw q at x)

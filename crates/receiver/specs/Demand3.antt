@@ -1,6 +1,6 @@
 -- Demand 3 of the request, as one claim about the whole list of pushes. The request's words stand in quotation marks
 -- above what renders them; what they mean is document 01's, "Demand 3 is a single claim". Assumes nothing.
-use Rattle.std.specs.Prelude.{◌≡◌, ◌⊎◌, ◌↔◌, cond, ℕ, suc, ◌-◌, ◌≤◌, ◌<◌, ltb, length, drop}
+use Rattle.std.specs.Prelude.{◌≡◌, ◌⊎◌, ◌↔◌, cond, ℕ, suc, ◌-◌, ◌≤◌, ◌<◌, ltb, length, drop, Option, Some, None}
 use mathlib.Core.List.{List, [], ◌∷◌, ◌++◌, Memᴰ, Sublistᴰ}
 use Rattle.field.specs.Bits.{Octets}
 use Rattle.field.specs.Layout.{up_to}
@@ -14,9 +14,7 @@ use Rattle.arq.specs.Frame.{room, begin_data_lem, continue_data_lem}
 use Rattle.arq.specs.Decode.{decode_of}
 use Rattle.arq.specs.Cut.{count_of, frame_of}
 use Rattle.receiver.specs.declared.ArqReassembler.{ArqReassembler}
-use Rattle.receiver.specs.declared.StatusAnswer.{StatusAnswer}
-use Rattle.receiver.specs.declared.StatusAnswer.TheVariants.{Status}
-use Rattle.receiver.specs.declared.Delivery.TheVariants.{Nothing, Message}
+use Rattle.receiver.specs.declared.ArqStatus.{ArqStatus}
 use Rattle.receiver.specs.declared.Reception.{Reception}
 use Rattle.receiver.specs.declared.Reception.TheVariants.{Ignored, Accepted}
 use Rattle.receiver.specs.Map.{In}
@@ -121,15 +119,15 @@ Completes i b n a p = CompletesByBegin b n a p ⊎ CompletesByContinue i b n a p
 
 -- a push delivers if its answer gives a message: of this length, or none
 abbrev pub Delivered : ℕ → Outcome Reception → Type 0
-Delivered n (gives (Accepted (Message m) r)) = m.length ≡ n
-Delivered n (gives (Accepted Nothing r)) = ⊥
+Delivered n (gives (Accepted (Some m) r)) = m.length ≡ n
+Delivered n (gives (Accepted None r)) = ⊥
 Delivered n (gives Ignored) = ⊥
 Delivered n (refuses x) = ⊥
 
 -- it gives none
 abbrev pub Undelivered : Outcome Reception → Type 0
-Undelivered (gives (Accepted (Message m) r)) = ⊥
-Undelivered (gives (Accepted Nothing r)) = Unit {0}
+Undelivered (gives (Accepted (Some m) r)) = ⊥
+Undelivered (gives (Accepted None r)) = Unit {0}
 Undelivered (gives Ignored) = Unit {0}
 Undelivered (refuses x) = Unit {0}
 
@@ -150,7 +148,7 @@ pub record Silent (b : List ℕ) (o : Out) : Type 0 where
   pub buffer : o.buffer ≡ b
 
 -- ---- the claim, of any constructor, `push` and `status`
-module _ (new : MobileIdentity → Outcome ArqReassembler) (push : ArqReassembler → List ℕ → List ℕ → Out) (status : ArqReassembler → StatusAnswer) where
+module _ (new : MobileIdentity → Outcome ArqReassembler) (push : ArqReassembler → List ℕ → List ℕ → Out) (status : ArqReassembler → Option ArqStatus) where
   -- each push gets the state that the one before it returned or, if that one was refused, the state that one was given
   abbrev pub next : ArqReassembler → Out → ArqReassembler
   next s o = handed s o.receiver o.outcome
@@ -164,7 +162,7 @@ module _ (new : MobileIdentity → Outcome ArqReassembler) (push : ArqReassemble
   pub record At (i : MobileIdentity) (m : List ℕ) (b : ArqFrame) (count : ℕ) (s : ArqReassembler) (a : List Push) (p : Push) : Type 0 where
     -- "after the Begin's push and each later one the map is exactly the set of such Continues' numbers heard so far"
     pub map_is : (heards (a ++ p ∷ []) ≡ [] → ⊥)
-        → (w : ℕ) × (status (runs s (a ++ p ∷ [])) ≡ Status (record { partial_echo = b.header.partial_echo; received_frames = w }))
+        → (w : ℕ) × (status (runs s (a ++ p ∷ [])) ≡ Some (record { partial_echo = b.header.partial_echo; received_frames = w }))
         × ((k : ℕ) → In k w ↔ HeardNo i b (heards (a ++ p ∷ [])) k)
     -- "The push that completes the set .. delivers exactly that message"
     pub completing : Completes i b (count - 1) a p → Delivers m p.buffer (push (runs s a) p.octets p.buffer)
@@ -178,8 +176,8 @@ module _ (new : MobileIdentity → Outcome ArqReassembler) (push : ArqReassemble
     -- "If a second fresh receiver of that identity has any such list with the same Begin and message, and hears all that the
     -- first hears, in order, with others between or after, its map at the end includes the first's"
     pub second : (s₁ : ArqReassembler) → new i ≡ gives s₁ → (l₁ : List Push) → Fitting i m b l₁ → Sublistᴰ (heards l) (heards l₁)
-        → (e w e₁ w₁ : ℕ) → status (runs s l) ≡ Status (record { partial_echo = e; received_frames = w })
-        → status (runs s₁ l₁) ≡ Status (record { partial_echo = e₁; received_frames = w₁ }) → (k : ℕ) → In k w → In k w₁
+        → (e w e₁ w₁ : ℕ) → status (runs s l) ≡ Some (record { partial_echo = e; received_frames = w })
+        → status (runs s₁ l₁) ≡ Some (record { partial_echo = e₁; received_frames = w₁ }) → (k : ℕ) → In k w → In k w₁
 
   -- "For every list of pushes to a fresh receiver, whatever their octets and buffers, refused ones included"
   abbrev pub Claim : Type 0

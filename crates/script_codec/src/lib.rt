@@ -2,103 +2,133 @@
 #![tactic(auto)]
 
 pub mod operands;
-pub mod values;
 
-ghost use Rattle.std.specs.Prelude.{◌≡◌, ◌+◌, ◌≤◌, length};
-ghost use Rattle.script_wire.specs.Answer.{Ready, Answered};
+ghost use Rattle.std.specs.Prelude.{◌≡◌, length};
 
-use arq::{CountAnswer, FrameAnswer};
-use operands::{Cut, CutOperand};
-use script_wire::Value;
-use spach::Verdict;
+use arq::ArqFrame;
+use script_wire::run::{Machine, Operation, Unknown, put};
+use script_wire::{Answer, Operands, Values};
 
-pub fn op_encode(script: &[u8], at: usize, answers: &mut [u8], to: usize) -> usize
-    requires { Ready 36 15 at to script.now answers.old }
-    ensures { Answered 15 to result answers.old answers.new }
-{
-    let CutOperand::Cut(cut) = operands::cut_at(script, at + 1) else {
-        return script_wire::answer(answers, to, 255);
-    };
-    if 1 < script[at] {
-        return script_wire::answer(answers, to, 255);
-    }
-    let frame = operands::frame_of(script, at, cut);
-    let encoded = frame.encode();
-    let verdict = encoded.verdict;
-    if let Verdict::Refused(error) = verdict {
-        return script_wire::answer(answers, to, error.number());
-    }
-    script_wire::answer_octets(answers, to, &encoded.frame.octets)
+#[derive(Clone, Copy, Debug, PartialEq, Eq)]
+pub enum Op {
+    Encode,
+    Decode,
+    Message,
+    Count,
+    Frame,
 }
 
-// A frame, or the refusal beside it.
-fn answer_frame(answers: &mut [u8], to: usize, answer: FrameAnswer) -> usize
-    requires { to + 37 ≤ length answers.old }
-    ensures { Answered 37 to result answers.old answers.new }
-{
-    let verdict = answer.verdict;
-    if let Verdict::Refused(error) = verdict {
-        return script_wire::answer(answers, to, error.number());
-    }
-    let octets = values::frame_octets(answer.frame);
-    script_wire::answer_octets(answers, to, &octets)
-}
+impl TryFrom<u8> for Op {
+    ghost use Rattle.script_wire.specs.Table.{Names};
+    ghost use Rattle.script_codec.specs.Table.{row_of};
 
-pub fn op_decode(script: &[u8], at: usize, answers: &mut [u8], to: usize) -> usize
-    requires { Ready 33 37 at to script.now answers.old }
-    ensures { Answered 37 to result answers.old answers.new }
-{
-    let count = script_wire::size(script[at]);
-    if 32 < count {
-        return script_wire::answer(answers, to, 255);
-    }
-    let frame = arq::read::decode(&script[at + 1..at + 1 + count]);
-    answer_frame(answers, to, frame)
-}
+    type Error = Unknown;
 
-pub fn op_count(script: &[u8], at: usize, message: &[u8], answers: &mut [u8], to: usize) -> usize
-    requires { Ready 16 2 at to script.now answers.old × (length message.now ≡ 304) }
-    ensures { Answered 2 to result answers.old answers.new }
-{
-    let CutOperand::Cut(cut) = operands::cut_at(script, at) else {
-        return script_wire::answer(answers, to, 255);
-    };
-    let count = script_wire::pair(script, at + 14);
-    if 304 < count {
-        return script_wire::answer(answers, to, 255);
-    }
-    let header = cut.header;
-    let identity = cut.identity;
-    match arq::cut::fragment_count(header, identity, &message[0..count]) {
-        CountAnswer::Frames(frames) => {
-            script_wire::reply(answers, to, 0, Value(1, frames as u64))
+    ghost try_from_gives = { Names row_of };
+
+    fn try_from(octet: u8) -> Result<Op, Unknown> {
+        match octet {
+            0x0c => Ok(Op::Encode),
+            0x0d => Ok(Op::Decode),
+            0x0e => Ok(Op::Message),
+            0x0f => Ok(Op::Count),
+            0x10 => Ok(Op::Frame),
+            _ => Err(Unknown),
         }
-        CountAnswer::Refused(error) => script_wire::answer(answers, to, error.number()),
     }
 }
 
-// Frame k of the message's cut, or the refusal.
-fn answer_cut(answers: &mut [u8], to: usize, cut: Cut, message: &[u8], k: usize) -> usize
-    requires { to + 37 ≤ length answers.old }
-    ensures { Answered 37 to result answers.old answers.new }
-{
-    let header = cut.header;
-    let identity = cut.identity;
-    let frame = arq::cut::fragment(header, identity, message, k);
-    answer_frame(answers, to, frame)
+impl Operation for Op {
+    ghost use Rattle.script_codec.specs.Table.{row_of};
+
+    ghost row_of = { row_of };
+
+    fn shape(self) -> (usize, usize) {
+        match self {
+            Op::Encode => (36, 15),
+            Op::Decode => (33, 37),
+            Op::Message => (9, 1),
+            Op::Count => (16, 2),
+            Op::Frame => (18, 37),
+        }
+    }
 }
 
-pub fn op_frame(script: &[u8], at: usize, message: &[u8], answers: &mut [u8], to: usize) -> usize
-    requires { Ready 18 37 at to script.now answers.old × (length message.now ≡ 304) }
-    ensures { Answered 37 to result answers.old answers.new }
+// Kind and mode are in the protocol's order.
+fn frame_values(frame: ArqFrame) -> Values<36> {
+    let header = frame.header;
+    let mut values = Values::new();
+    values.push(frame.kind as u8);
+    values.push(header.channel.usage());
+    values.push(script_leaf::headers::flags_octet(header.flags));
+    values.push(header.partial_echo);
+    values.push(u8::from(header.polling));
+    values.push(header.response_mode as u8);
+    values.identity(frame.identity);
+    values.push(frame.message_octets);
+    values.push(frame.begin_bits);
+    values.extend(&frame.begin_data);
+    values.push(frame.identity_type);
+    values.push(frame.frame_number);
+    values.extend(&frame.continue_data);
+    values
+}
+
+fn encode(mut operands: Operands<'_>) -> Answer<14>
+    requires { length operands ≡ 36 }
 {
-    let CutOperand::Cut(cut) = operands::cut_at(script, at) else {
-        return script_wire::answer(answers, to, 255);
-    };
-    let count = script_wire::pair(script, at + 14);
-    if 304 < count {
-        return script_wire::answer(answers, to, 255);
+    let packed = operands::frame(&mut operands)?.encode()?;
+    Ok(Values::from(packed.octets))
+}
+
+fn decode(mut operands: Operands<'_>) -> Answer<36>
+    requires { length operands ≡ 33 }
+{
+    Ok(frame_values(arq::read::decode(operands.frame()?)?))
+}
+
+#[derive(Clone, Copy, Debug, PartialEq, Eq)]
+pub struct Message {
+    octets: [u8; 304],
+}
+
+impl Message {
+    pub fn new() -> Message {
+        Message { octets: [0; 304] }
     }
-    let k = script_wire::pair(script, at + 16);
-    answer_cut(answers, to, cut, &message[0..count], k)
+
+    fn count(&self, mut operands: Operands<'_>) -> Answer<1>
+        requires { length operands ≡ 16 }
+    {
+        let header = operands::header(&mut operands)?;
+        let identity = operands.identity()?;
+        let length = operands.length()?;
+        let count = arq::cut::fragment_count(header, identity, &self.octets[..length])?;
+        Ok(Values::from([script_wire::low(count)]))
+    }
+
+    fn frame(&self, mut operands: Operands<'_>) -> Answer<36>
+        requires { length operands ≡ 18 }
+    {
+        let header = operands::header(&mut operands)?;
+        let identity = operands.identity()?;
+        let length = operands.length()?;
+        let k = usize::from(operands.two());
+        let frame = arq::cut::fragment(header, identity, &self.octets[..length], k)?;
+        Ok(frame_values(frame))
+    }
+}
+
+impl Machine for Message {
+    type Op = Op;
+
+    fn run(&mut self, op: Op, operands: Operands<'_>, answers: &mut [u8]) -> usize {
+        match op {
+            Op::Encode => put(answers, encode(operands)),
+            Op::Decode => put(answers, decode(operands)),
+            Op::Message => put(answers, script_store::fill(&mut self.octets, operands)),
+            Op::Count => put(answers, self.count(operands)),
+            Op::Frame => put(answers, self.frame(operands)),
+        }
+    }
 }

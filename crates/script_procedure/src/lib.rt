@@ -1,153 +1,169 @@
 // The operations on a procedure.
 #![tactic(auto)]
 
-pub mod calls;
+pub mod values;
 
-ghost use Rattle.std.specs.Prelude.{◌+◌, ◌≤◌, length};
-ghost use Rattle.procedure.specs.Procedure.{Sound};
-ghost use Rattle.script_wire.specs.Answer.{Ready, Answered};
-ghost use Rattle.script_table.specs.Table.{operands_of, longest_of};
+ghost use Rattle.std.specs.Prelude.{◌≡◌, length};
 
 use procedure::ArqProcedure;
-use rach::MobileIdentity;
-use script_leaf::identities::Operand;
-use spach::Verdict;
+use script_inactivity::{put_timer, status_result};
+use script_receiver::filled;
+use script_receiver::values::put_status;
+use script_wire::run::{Machine, Operation, Unknown, put};
+use script_wire::{Answer, NO_CALL, Operands, Refused, Values};
 
-// A script's procedure; if there is none, one that is not looked at.
-#[derive(Clone, Copy)]
-pub struct ProcedureSlot {
-    pub present: bool,
-    pub procedure: ArqProcedure,
+#[derive(Clone, Copy, Debug, PartialEq, Eq)]
+pub enum Op {
+    New,
+    Reset,
+    Active,
+    Receive,
+    Advance,
+    Sent,
+    State,
 }
 
-// The slot after an operation, and how many octets it answered.
-#[derive(Clone, Copy)]
-pub struct Ran {
-    pub slot: ProcedureSlot,
-    pub answered: usize,
-}
+impl TryFrom<u8> for Op {
+    ghost use Rattle.script_wire.specs.Table.{Names};
+    ghost use Rattle.script_procedure.specs.Table.{row_of};
 
-// The same of a procedure that is there.
-#[derive(Clone, Copy)]
-pub struct Done {
-    pub procedure: ArqProcedure,
-    pub answered: usize,
-}
+    type Error = Unknown;
 
-// A slot as PROCEDURE leaves it, and its number octet.
-#[derive(Clone, Copy)]
-pub struct Opened {
-    pub slot: ProcedureSlot,
-    pub number: u8,
-}
+    ghost try_from_gives = { Names row_of };
 
-// No procedure. The one beside it has an identity that can be encoded, so that it is sound.
-pub fn no_procedure() -> ProcedureSlot
-    ensures { Sound result.procedure }
-{
-    let made = ArqProcedure::try_new(MobileIdentity::Tmsi20(1), 0);
-    let procedure = made.procedure;
-    ProcedureSlot {
-        present: false,
-        procedure: procedure,
+    fn try_from(octet: u8) -> Result<Op, Unknown> {
+        match octet {
+            0x20 => Ok(Op::New),
+            0x21 => Ok(Op::Reset),
+            0x22 => Ok(Op::Active),
+            0x23 => Ok(Op::Receive),
+            0x24 => Ok(Op::Advance),
+            0x25 => Ok(Op::Sent),
+            0x26 => Ok(Op::State),
+            _ => Err(Unknown),
+        }
     }
 }
 
-// The number octet alone.
-fn plain(slot: ProcedureSlot, number: u8, answers: &mut [u8], to: usize) -> Ran
-    requires { (to + 1 ≤ length answers.old) × Sound slot.procedure }
-    ensures { Answered 1 to result.answered answers.old answers.new × Sound result.slot.procedure }
-{
-    let length = script_wire::answer(answers, to, number);
-    Ran {
-        slot: slot,
-        answered: length,
+impl Operation for Op {
+    ghost use Rattle.script_procedure.specs.Table.{row_of};
+
+    ghost row_of = { row_of };
+
+    fn shape(self) -> (usize, usize) {
+        match self {
+            Op::New => (17, 1),
+            Op::Reset => (0, 1),
+            Op::Active => (0, 2),
+            Op::Receive => (44, 336),
+            Op::Advance => (8, 19),
+            Op::Sent => (25, 2),
+            Op::State => (0, 42),
+        }
     }
 }
 
-// A refusal leaves no procedure.
-fn open(identity: MobileIdentity, first: u64) -> Opened
-    ensures { Sound result.slot.procedure }
-{
-    let made = ArqProcedure::try_new(identity, first);
-    let verdict = made.verdict;
-    if let Verdict::Refused(error) = verdict {
-        let none = no_procedure();
-        return Opened {
-            slot: none,
-            number: error.number(),
-        };
+// A script's procedure, if it has one.
+#[derive(Clone, Copy, Debug, PartialEq, Eq)]
+pub struct Procedure {
+    held: Option<ArqProcedure>,
+}
+
+impl Procedure {
+    pub fn new() -> Procedure {
+        Procedure { held: None }
     }
-    let procedure = made.procedure;
-    Opened {
-        slot: ProcedureSlot {
-            present: true,
-            procedure: procedure,
-        },
-        number: 0,
+
+    fn held(&self) -> Result<ArqProcedure, Refused> {
+        self.held.ok_or(NO_CALL)
+    }
+
+    // What a call leaves is kept, what it gives is handed on.
+    fn keep<A>(&mut self, done: (ArqProcedure, A)) -> A {
+        let (after, given) = done;
+        self.held = Some(after);
+        given
+    }
+
+    // A refusal leaves none.
+    fn make(&mut self, mut operands: Operands<'_>) -> Answer<0>
+        requires { length operands ≡ 17 }
+    {
+        let identity = operands.identity()?;
+        self.held = None;
+        self.held = Some(ArqProcedure::try_new(identity, operands.eight())?);
+        Ok(Values::new())
+    }
+
+    fn reset(&mut self) -> Answer<0> {
+        let held = self.held()?;
+        self.keep(held.reset())?;
+        Ok(Values::new())
+    }
+
+    fn active(&self) -> Answer<1> {
+        Ok(Values::flag(self.held()?.active()))
+    }
+
+    // The whole buffer after the event.
+    fn receive(&mut self, mut operands: Operands<'_>) -> Answer<335>
+        requires { length operands ≡ 44 }
+    {
+        let held = self.held()?;
+        let block = operands.eight();
+        let octets = operands.frame()?;
+        let room = operands.length()?;
+        let mut buffer = filled(room, operands.octet());
+        let event = self.keep(held.receive(block, octets, &mut buffer[..room]))?;
+        let mut values = Values::new();
+        values::put_receive(&mut values, event);
+        values.extend(&buffer);
+        Ok(values)
+    }
+
+    fn advance(&mut self, mut operands: Operands<'_>) -> Answer<18>
+        requires { length operands ≡ 8 }
+    {
+        let held = self.held()?;
+        let event = self.keep(held.advance(operands.eight()))?;
+        Ok(values::timer_values(event))
+    }
+
+    // Events are in the protocol's order.
+    fn sent(&mut self, mut operands: Operands<'_>) -> Answer<1>
+        requires { length operands ≡ 25 }
+    {
+        let held = self.held()?;
+        let block = operands.eight();
+        let transmission = values::transmission(&mut operands)?;
+        let res = status_result(&mut operands)?;
+        let event = self.keep(held.status_sent(block, transmission, res))?;
+        Ok(Values::from([event as u8]))
+    }
+
+    fn state(&self) -> Answer<41> {
+        let held = self.held()?;
+        let receiver = held.receiver();
+        let mut values = Values::new();
+        put_timer(&mut values, held.inactivity());
+        put_status(&mut values, receiver.status());
+        values.push(u8::from(receiver.complete()));
+        Ok(values)
     }
 }
 
-fn op_procedure(slot: ProcedureSlot, script: &[u8], at: usize, answers: &mut [u8], to: usize) -> Ran
-    requires { Ready 17 1 at to script.now answers.old × Sound slot.procedure }
-    ensures { Answered 1 to result.answered answers.old answers.new × Sound result.slot.procedure }
-{
-    let Operand::Identity(identity) = script_leaf::identities::identity_at(script, at) else {
-        return plain(slot, 255, answers, to);
-    };
-    let opened = open(identity, script_wire::eight(script, at + 9));
-    let fresh = opened.slot;
-    plain(fresh, opened.number, answers, to)
-}
+impl Machine for Procedure {
+    type Op = Op;
 
-// Operations 33 to 38.
-fn run_call(
-    op: u8,
-    procedure: ArqProcedure,
-    script: &[u8],
-    at: usize,
-    answers: &mut [u8],
-    to: usize,
-) -> Done
-    requires { Ready (operands_of op) (longest_of op) at to script.now answers.old × Sound procedure × (33 ≤ op) × (op ≤ 38) }
-    ensures { Answered (longest_of op) to result.answered answers.old answers.new × Sound result.procedure }
-{
-    match op {
-        33 => calls::op_reset(procedure, answers, to),
-        34 => calls::op_active(procedure, answers, to),
-        35 => calls::op_receive(procedure, script, at, answers, to),
-        36 => calls::op_advance(procedure, script, at, answers, to),
-        37 => calls::op_sent(procedure, script, at, answers, to),
-        _ => calls::op_state(procedure, answers, to),
-    }
-}
-
-// Operations 32 to 38.
-pub fn run(
-    op: u8,
-    slot: ProcedureSlot,
-    script: &[u8],
-    at: usize,
-    answers: &mut [u8],
-    to: usize,
-) -> Ran
-    requires { Ready (operands_of op) (longest_of op) at to script.now answers.old × Sound slot.procedure × (1 ≤ longest_of op) × (32 ≤ op) × (op ≤ 38) }
-    ensures { Answered (longest_of op) to result.answered answers.old answers.new × Sound result.slot.procedure }
-{
-    if op == 32 {
-        return op_procedure(slot, script, at, answers, to);
-    }
-    if !slot.present {
-        return plain(slot, 255, answers, to);
-    }
-    let procedure = slot.procedure;
-    let done = run_call(op, procedure, script, at, answers, to);
-    let after = done.procedure;
-    Ran {
-        slot: ProcedureSlot {
-            present: true,
-            procedure: after,
-        },
-        answered: done.answered,
+    fn run(&mut self, op: Op, operands: Operands<'_>, answers: &mut [u8]) -> usize {
+        match op {
+            Op::New => put(answers, self.make(operands)),
+            Op::Reset => put(answers, self.reset()),
+            Op::Active => put(answers, self.active()),
+            Op::Receive => put(answers, self.receive(operands)),
+            Op::Advance => put(answers, self.advance(operands)),
+            Op::Sent => put(answers, self.sent(operands)),
+            Op::State => put(answers, self.state()),
+        }
     }
 }

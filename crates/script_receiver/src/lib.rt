@@ -3,69 +3,54 @@
 
 pub mod values;
 
-ghost use Rattle.std.specs.Prelude.{◌+◌, ◌≤◌, length};
-ghost use Rattle.script_wire.specs.Answer.{Ready, Answered};
+ghost use Rattle.std.specs.Prelude.{◌≡◌, ◌≤◌, length};
 
-use rach::MobileIdentity;
-use receiver::{ArqReassembler, PushAnswer, Pushed};
-use script_leaf::identities::Operand;
-use script_wire::Value;
+use receiver::ArqReassembler;
+use script_wire::run::{Machine, Operation, Unknown, put};
+use script_wire::{Answer, NO_CALL, Operands, Refused, Values};
 
-// A script's receiver; if there is none, a value that is not looked at.
-#[derive(Clone, Copy)]
-pub struct Machine {
-    pub present: bool,
-    pub receiver: ArqReassembler,
+#[derive(Clone, Copy, Debug, PartialEq, Eq)]
+pub enum Op {
+    New,
+    Push,
+    Reset,
+    Status,
+    Complete,
 }
 
-// The machine after an operation, and how many octets it answered.
-#[derive(Clone, Copy)]
-pub struct Ran {
-    pub machine: Machine,
-    pub answered: usize,
-}
+impl TryFrom<u8> for Op {
+    ghost use Rattle.script_wire.specs.Table.{Names};
+    ghost use Rattle.script_receiver.specs.Table.{row_of};
 
-// No receiver.
-pub fn no_receiver() -> Machine {
-    let made = ArqReassembler::try_new(MobileIdentity::Tmsi20(0));
-    let receiver = made.receiver;
-    Machine {
-        present: false,
-        receiver: receiver,
+    type Error = Unknown;
+
+    ghost try_from_gives = { Names row_of };
+
+    fn try_from(octet: u8) -> Result<Op, Unknown> {
+        match octet {
+            0x11 => Ok(Op::New),
+            0x12 => Ok(Op::Push),
+            0x13 => Ok(Op::Reset),
+            0x14 => Ok(Op::Status),
+            0x15 => Ok(Op::Complete),
+            _ => Err(Unknown),
+        }
     }
 }
 
-// The operands name no call: the machine stays.
-fn no_call(machine: Machine, answers: &mut [u8], to: usize) -> Ran
-    requires { to + 1 ≤ length answers.old }
-    ensures { Answered 1 to result.answered answers.old answers.new }
-{
-    let length = script_wire::answer(answers, to, 255);
-    Ran {
-        machine: machine,
-        answered: length,
-    }
-}
+impl Operation for Op {
+    ghost use Rattle.script_receiver.specs.Table.{row_of};
 
-pub fn op_new(machine: Machine, script: &[u8], at: usize, answers: &mut [u8], to: usize) -> Ran
-    requires { Ready 9 1 at to script.now answers.old }
-    ensures { Answered 1 to result.answered answers.old answers.new }
-{
-    let Operand::Identity(identity) = script_leaf::identities::identity_at(script, at) else {
-        return no_call(machine, answers, to);
-    };
-    let made = ArqReassembler::try_new(identity);
-    let verdict = made.verdict;
-    let number = script_leaf::identities::number_of(verdict);
-    let receiver = made.receiver;
-    let length = script_wire::answer(answers, to, number);
-    let after = Machine {
-        present: number == 0,
-        receiver: receiver,
-    };
-    Ran {
-        machine: after,
-        answered: length,
+    ghost row_of = { row_of };
+
+    fn shape(self) -> (usize, usize) {
+        match self {
+            Op::New => (9, 1),
+            Op::Push => (36, 327),
+            Op::Reset => (0, 1),
+            Op::Status => (0, 7),
+            Op::Complete => (0, 2),
+        }
     }
 }
 
@@ -73,131 +58,78 @@ pub fn op_new(machine: Machine, script: &[u8], at: usize, answers: &mut [u8], to
 pub fn filled(room: usize, filling: u8) -> [u8; 304]
     requires { room ≤ 304 }
 {
-    let mut buffer = [0u8; 304];
-    let mut i: usize = 0;
-    while i < room {
-        buffer[i] = filling;
-        i += 1;
-    }
+    let mut buffer = [0; 304];
+    buffer[..room].fill(filling);
     buffer
 }
 
-// The reception and the buffer, or the refusal.
-fn answer_push(answers: &mut [u8], to: usize, pushed: PushAnswer, buffer: &[u8]) -> usize
-    requires { (to + 327 ≤ length answers.old) × (length buffer.now ≤ 304) }
-    ensures { Answered 327 to result answers.old answers.new }
-{
-    match pushed {
-        PushAnswer::Reception(reception) => {
-            let octets = values::reception_and_buffer(reception, buffer);
-            script_wire::answer_octets(answers, to, &octets)
+// A script's receiver, if it has one.
+#[derive(Clone, Copy)]
+pub struct Receiver {
+    held: Option<ArqReassembler>,
+}
+
+impl Receiver {
+    pub fn new() -> Receiver {
+        Receiver { held: None }
+    }
+
+    fn held(&self) -> Result<ArqReassembler, Refused> {
+        self.held.ok_or(NO_CALL)
+    }
+
+    // A refusal leaves none.
+    fn make(&mut self, mut operands: Operands<'_>) -> Answer<0>
+        requires { length operands ≡ 9 }
+    {
+        let identity = operands.identity()?;
+        self.held = None;
+        self.held = Some(ArqReassembler::try_new(identity)?);
+        Ok(Values::new())
+    }
+
+    // The whole buffer after the reception.
+    fn push(&mut self, mut operands: Operands<'_>) -> Answer<326>
+        requires { length operands ≡ 36 }
+    {
+        let held = self.held()?;
+        let octets = operands.frame()?;
+        let room = operands.length()?;
+        let mut buffer = filled(room, operands.octet());
+        let (after, pushed) = held.push(octets, &mut buffer[..room]);
+        self.held = Some(after);
+        let mut values = Values::new();
+        values::put_reception(&mut values, pushed?);
+        values.extend(&buffer);
+        Ok(values)
+    }
+
+    fn reset(&mut self) -> Answer<0> {
+        self.held = Some(self.held()?.reset());
+        Ok(Values::new())
+    }
+
+    fn status(&self) -> Answer<6> {
+        let mut values = Values::new();
+        values::put_status(&mut values, self.held()?.status());
+        Ok(values)
+    }
+
+    fn complete(&self) -> Answer<1> {
+        Ok(Values::flag(self.held()?.complete()))
+    }
+}
+
+impl Machine for Receiver {
+    type Op = Op;
+
+    fn run(&mut self, op: Op, operands: Operands<'_>, answers: &mut [u8]) -> usize {
+        match op {
+            Op::New => put(answers, self.make(operands)),
+            Op::Push => put(answers, self.push(operands)),
+            Op::Reset => put(answers, self.reset()),
+            Op::Status => put(answers, self.status()),
+            Op::Complete => put(answers, self.complete()),
         }
-        PushAnswer::Refused(error) => script_wire::answer(answers, to, error.number()),
-    }
-}
-
-// Pushes the octets, with so much of the buffer.
-fn push_into(receiver: ArqReassembler, octets: &[u8], buffer: &mut [u8], room: usize) -> Pushed
-    requires { room ≤ length buffer.old }
-{
-    receiver.push(octets, &mut buffer[0..room])
-}
-
-// Pushes the octets and answers; the receiver after it.
-fn push_octets(
-    receiver: ArqReassembler,
-    octets: &[u8],
-    room: usize,
-    filling: u8,
-    answers: &mut [u8],
-    to: usize,
-) -> Ran
-    requires { (to + 327 ≤ length answers.old) × (room ≤ 304) }
-    ensures { Answered 327 to result.answered answers.old answers.new }
-{
-    let mut buffer = filled(room, filling);
-    let pushed = push_into(receiver, octets, &mut buffer, room);
-    let answer = pushed.answer;
-    let length = answer_push(answers, to, answer, &buffer);
-    let after = pushed.receiver;
-    let machine = Machine {
-        present: true,
-        receiver: after,
-    };
-    Ran {
-        machine: machine,
-        answered: length,
-    }
-}
-
-pub fn op_push(machine: Machine, script: &[u8], at: usize, answers: &mut [u8], to: usize) -> Ran
-    requires { Ready 36 327 at to script.now answers.old }
-    ensures { Answered 327 to result.answered answers.old answers.new }
-{
-    let count = script_wire::size(script[at]);
-    let room = script_wire::pair(script, at + 33);
-    if !machine.present {
-        return no_call(machine, answers, to);
-    }
-    if 32 < count {
-        return no_call(machine, answers, to);
-    }
-    if 304 < room {
-        return no_call(machine, answers, to);
-    }
-    let receiver = machine.receiver;
-    let octets = &script[at + 1..at + 1 + count];
-    push_octets(receiver, octets, room, script[at + 35], answers, to)
-}
-
-pub fn op_reset(machine: Machine, answers: &mut [u8], to: usize) -> Ran
-    requires { to + 1 ≤ length answers.old }
-    ensures { Answered 1 to result.answered answers.old answers.new }
-{
-    if !machine.present {
-        return no_call(machine, answers, to);
-    }
-    let receiver = machine.receiver;
-    let after = receiver.reset();
-    let fresh = Machine {
-        present: true,
-        receiver: after,
-    };
-    let length = script_wire::answer(answers, to, 0);
-    Ran {
-        machine: fresh,
-        answered: length,
-    }
-}
-
-pub fn op_status(machine: Machine, answers: &mut [u8], to: usize) -> Ran
-    requires { to + 7 ≤ length answers.old }
-    ensures { Answered 7 to result.answered answers.old answers.new }
-{
-    if !machine.present {
-        return no_call(machine, answers, to);
-    }
-    let receiver = machine.receiver;
-    let status = values::held_octets(receiver.status());
-    let length = script_wire::answer_octets(answers, to, &status);
-    Ran {
-        machine: machine,
-        answered: length,
-    }
-}
-
-pub fn op_complete(machine: Machine, answers: &mut [u8], to: usize) -> Ran
-    requires { to + 2 ≤ length answers.old }
-    ensures { Answered 2 to result.answered answers.old answers.new }
-{
-    if !machine.present {
-        return no_call(machine, answers, to);
-    }
-    let receiver = machine.receiver;
-    let complete = Value(1, receiver.complete() as u64);
-    let length = script_wire::reply(answers, to, 0, complete);
-    Ran {
-        machine: machine,
-        answered: length,
     }
 }

@@ -1,101 +1,60 @@
-// Receptions as values of an answer.
-ghost use Rattle.std.specs.Prelude.{◌+◌, ◌≤◌, length};
+// Receptions as values of an answer: zeros for what there is not.
+ghost use Rattle.std.specs.Prelude.{◌≡◌, ◌+◌, ◌≤◌, length};
 
-use receiver::{
-    ArqStatus, Delivery, Reception, Request, SingleMessage, StatusAnswer, StatusRequest,
-};
+use receiver::{ArqStatus, Reception, SingleMessage, StatusRequest};
+use script_wire::Values;
 
-// A reception's octets with those of src from `at` on.
-fn with_octets(octets: [u8; 22], at: usize, src: &[u8]) -> [u8; 22]
-    requires { at + length src.now ≤ 22 }
+pub fn put_message<const N: usize>(values: &mut Values<N>, message: Option<SingleMessage>)
+    requires { length values.old + 13 ≤ N }
+    ensures { length values.new ≡ length values.old + 13 }
 {
-    let mut b = octets;
-    script_wire::put_all(&mut b, at, src);
-    b
+    let Some(message) = message else {
+        return values.extend(&[0; 13]);
+    };
+    values.push(1);
+    values.push(message.channel.usage());
+    values.push(script_leaf::headers::flags_octet(message.flags));
+    values.identity(message.identity);
+    values.push(script_wire::low(message.length));
 }
 
-fn with_number(octets: [u8; 22], at: usize, n: usize, value: u64) -> [u8; 22]
-    requires { (at + n ≤ 22) × (n ≤ 8) }
+pub fn put_status<const N: usize>(values: &mut Values<N>, status: Option<ArqStatus>)
+    requires { length values.old + 6 ≤ N }
+    ensures { length values.new ≡ length values.old + 6 }
 {
-    let mut b = octets;
-    script_wire::put_number(&mut b, at, n, value);
-    b
+    let Some(status) = status else {
+        return values.extend(&[0; 6]);
+    };
+    values.push(1);
+    values.push(status.partial_echo);
+    values.extend(&status.received_frames.to_be_bytes());
 }
 
-fn with_message(octets: [u8; 22], message: SingleMessage) -> [u8; 22] {
-    let channel = message.channel;
-    let flags = message.flags;
-    let identity = message.identity;
-    let parts = rach::parts(identity);
-    let front = [
-        1,
-        channel.usage(),
-        script_leaf::headers::flags_octet(flags),
-        parts.identity_type,
-    ];
-    let a = with_octets(octets, 1, &front);
-    let b = with_number(a, 5, 8, parts.value);
-    with_number(b, 13, 1, message.length as u64)
-}
-
-fn with_delivery(octets: [u8; 22], delivery: Delivery) -> [u8; 22] {
-    match delivery {
-        Delivery::Nothing => octets,
-        Delivery::Message(message) => with_message(octets, message),
-    }
-}
-
-// One, echo and map.
-pub fn status_octets(status: ArqStatus) -> [u8; 6] {
-    let mut b = [1, status.partial_echo, 0, 0, 0, 0];
-    script_wire::put_number(&mut b, 2, 4, status.received_frames as u64);
-    b
-}
-
-// The same, or zeros if nothing is held.
-pub fn held_octets(status: StatusAnswer) -> [u8; 6] {
-    match status {
-        StatusAnswer::Nothing => [0u8; 6],
-        StatusAnswer::Status(held) => status_octets(held),
-    }
-}
-
-fn with_status(octets: [u8; 22], request: StatusRequest) -> [u8; 22] {
-    let status = request.status;
-    let mode = request.response_mode;
-    let front = status_octets(status);
-    let last = [script_codec::values::mode_octet(mode)];
-    with_octets(with_octets(octets, 14, &front), 20, &last)
-}
-
-fn with_request(octets: [u8; 22], request: Request) -> [u8; 22] {
-    match request {
-        Request::Nothing => octets,
-        Request::Status(status) => with_status(octets, status),
-    }
-}
-
-// A reception as an answer has it.
-pub fn reception_octets(reception: Reception) -> [u8; 22] {
-    match reception {
-        Reception::Ignored => [0u8; 22],
-        Reception::Accepted {
-            message,
-            status_request,
-        } => {
-            let accepted = with_number([0u8; 22], 0, 1, 1);
-            with_request(with_delivery(accepted, message), status_request)
-        }
-    }
-}
-
-// A reception and the whole buffer after it.
-pub fn reception_and_buffer(reception: Reception, buffer: &[u8]) -> [u8; 326]
-    requires { length buffer.now ≤ 304 }
+// The mode is in the protocol's order; an octet of padding is last.
+fn put_request<const N: usize>(values: &mut Values<N>, request: Option<StatusRequest>)
+    requires { length values.old + 8 ≤ N }
+    ensures { length values.new ≡ length values.old + 8 }
 {
-    let octets = reception_octets(reception);
-    let mut all = [0u8; 326];
-    script_wire::put_all(&mut all, 0, &octets);
-    script_wire::put_all(&mut all, 22, buffer);
-    all
+    let Some(request) = request else {
+        return values.extend(&[0; 8]);
+    };
+    put_status(values, Some(request.status));
+    values.push(request.response_mode as u8);
+    values.push(0);
+}
+
+pub fn put_reception<const N: usize>(values: &mut Values<N>, reception: Reception)
+    requires { length values.old + 22 ≤ N }
+    ensures { length values.new ≡ length values.old + 22 }
+{
+    let Reception::Accepted {
+        message,
+        status_request,
+    } = reception
+    else {
+        return values.extend(&[0; 22]);
+    };
+    values.push(1);
+    put_message(values, message);
+    put_request(values, status_request);
 }

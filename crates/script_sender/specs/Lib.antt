@@ -1,2 +1,2 @@
--- What the sender's comparison keeps between operations, beside oracle/SENDER.md.
-pub mod Machine
+-- The table of a sender's operations, as oracle/SENDER.md has it.
+pub mod Table

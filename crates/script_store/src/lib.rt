@@ -1,114 +1,141 @@
-// TAKE, PUT, FILL, DUMP and COPY on the store of 64 octets; MESSAGE on the message.
+// The operations on the store of 64 octets.
 #![tactic(auto)]
 
-ghost use Rattle.std.specs.Prelude.{◌≡◌, ◌+◌, ◌*◌, ◌≤◌, length};
-ghost use Rattle.script_wire.specs.Answer.{Ready, Answered};
+ghost use Rattle.std.specs.Prelude.{◌≡◌, ◌+◌, ◌≤◌, length, IfOk};
 
-use script_wire::Value;
-use spach::Reader;
+use script_wire::run::{Machine, Operation, Unknown, put};
+use script_wire::{Answer, NO_CALL, Operands, Refused, Values};
+use spach::{Reader, SpachError};
 
-// The width operand at `at`; 0 for one that is not 1 to 50.
-fn width_at(script: &[u8], at: usize) -> usize
-    requires { at + 1 ≤ length script.now }
-    ensures { result ≤ 50 }
-{
-    let width = script_wire::size(script[at]);
-    if 50 < width {
-        return 0;
-    }
-    width
+#[derive(Clone, Copy, Debug, PartialEq, Eq)]
+pub enum Op {
+    Take,
+    Put,
+    Fill,
+    Dump,
+    Copy,
 }
 
-pub fn op_take(script: &[u8], at: usize, store: &[u8], answers: &mut [u8], to: usize) -> usize
-    requires { Ready 3 11 at to script.now answers.old × (length store.now ≡ 64) }
-    ensures { Answered 11 to result answers.old answers.new }
+impl TryFrom<u8> for Op {
+    ghost use Rattle.script_wire.specs.Table.{Names};
+    ghost use Rattle.script_store.specs.Table.{row_of};
+
+    type Error = Unknown;
+
+    ghost try_from_gives = { Names row_of };
+
+    fn try_from(octet: u8) -> Result<Op, Unknown> {
+        match octet {
+            0x07 => Ok(Op::Take),
+            0x08 => Ok(Op::Put),
+            0x09 => Ok(Op::Fill),
+            0x0a => Ok(Op::Dump),
+            0x0b => Ok(Op::Copy),
+            _ => Err(Unknown),
+        }
+    }
+}
+
+impl Operation for Op {
+    ghost use Rattle.script_store.specs.Table.{row_of};
+
+    ghost row_of = { row_of };
+
+    fn shape(self) -> (usize, usize) {
+        match self {
+            Op::Take => (3, 11),
+            Op::Put => (11, 1),
+            Op::Fill => (9, 1),
+            Op::Dump => (0, 65),
+            Op::Copy => (6, 1),
+        }
+    }
+}
+
+// The offset and width of a field of the store: no call if the width is not 1 to 50, refused if it runs past the end.
+fn field_at(operands: &mut Operands<'_>) -> Result<(usize, usize), Refused>
+    requires { 3 ≤ length operands.old }
+    ensures left { length operands.old ≡ length operands.new + 3 }
+    ensures placed { IfOk result (λ f. (1 ≤ f.1) × (f.1 ≤ 50) × (f.0 + f.1 ≤ 512)) }
 {
-    let offset = script_wire::pair(script, at);
-    let width = width_at(script, at + 2);
-    if width == 0 {
-        return script_wire::answer(answers, to, 255);
+    let offset = usize::from(operands.two());
+    let width = usize::from(operands.octet());
+    if width < 1 || 50 < width {
+        return Err(NO_CALL);
     }
     if 512 < offset + width {
-        return script_wire::answer(answers, to, 1);
+        return Err(SpachError::Length.into());
     }
-    let reader = Reader { offset: offset };
-    let taken = reader.take(store, width);
-    let after = taken.reader;
-    script_wire::answer_values(
-        answers,
-        to,
-        Value(8, taken.value),
-        Value(2, after.offset as u64),
-        Value(0, 0),
-        Value(0, 0),
-    )
+    Ok((offset, width))
 }
 
-pub fn op_put(script: &[u8], at: usize, store: &mut [u8], answers: &mut [u8], to: usize) -> usize
-    requires { Ready 11 1 at to script.now answers.old × (length store.old ≡ 64) }
-    ensures { Answered 1 to result answers.old answers.new }
+// FILL and MESSAGE: octets 8k to 8k + 7 of the memory.
+pub fn fill(memory: &mut [u8], mut operands: Operands<'_>) -> Answer<0>
+    requires { length operands ≡ 9 }
 {
-    let offset = script_wire::pair(script, at);
-    let width = width_at(script, at + 2);
-    if width == 0 {
-        return script_wire::answer(answers, to, 255);
+    let at = 8 * usize::from(operands.octet());
+    if memory.len() < at + 8 {
+        return Err(NO_CALL);
     }
-    if 512 < offset + width {
-        return script_wire::answer(answers, to, 1);
-    }
-    field::write_field(store, offset, width, script_wire::eight(script, at + 3));
-    script_wire::answer(answers, to, 0)
+    memory[at..at + 8].copy_from_slice(&operands.octets::<8>());
+    Ok(Values::new())
 }
 
-// FILL and MESSAGE: octets 8k to 8k + 7 of `memory`, where k is below `parts`.
-pub fn op_fill(
-    script: &[u8],
-    at: usize,
-    memory: &mut [u8],
-    parts: usize,
-    answers: &mut [u8],
-    to: usize,
-) -> usize
-    requires { Ready 9 1 at to script.now answers.old × (8 * parts ≤ length memory.old) }
-    ensures { Answered 1 to result answers.old answers.new }
-{
-    let part = script_wire::size(script[at]);
-    if parts <= part {
-        return script_wire::answer(answers, to, 255);
-    }
-    script_wire::put_all(memory, 8 * part, &script[at + 1..at + 9]);
-    script_wire::answer(answers, to, 0)
+#[derive(Clone, Copy, Debug, PartialEq, Eq)]
+pub struct Store {
+    octets: [u8; 64],
 }
 
-pub fn op_dump(store: &[u8], answers: &mut [u8], to: usize) -> usize
-    requires { (to + 65 ≤ length answers.old) × (length store.now ≡ 64) }
-    ensures { Answered 65 to result answers.old answers.new }
-{
-    script_wire::answer_octets(answers, to, store)
+impl Store {
+    pub fn new() -> Store {
+        Store { octets: [0; 64] }
+    }
+
+    fn take(&self, mut operands: Operands<'_>) -> Answer<10>
+        requires { length operands ≡ 3 }
+    {
+        let (offset, width) = field_at(&mut operands)?;
+        let (value, reader) = Reader { offset }.take(&self.octets, width);
+        let mut values = Values::new();
+        values.number(value);
+        values.extend(&(reader.offset as u16).to_be_bytes());
+        Ok(values)
+    }
+
+    fn put(&mut self, mut operands: Operands<'_>) -> Answer<0>
+        requires { length operands ≡ 11 }
+    {
+        let (offset, width) = field_at(&mut operands)?;
+        field::write_field(&mut self.octets, offset, width, operands.eight());
+        Ok(Values::new())
+    }
+
+    // The bits as they were: the two runs may overlap.
+    fn copy(&mut self, mut operands: Operands<'_>) -> Answer<0>
+        requires { length operands ≡ 6 }
+    {
+        let to = usize::from(operands.two());
+        let from = usize::from(operands.two());
+        let count = usize::from(operands.two());
+        if 512 < to + count || 512 < from + count {
+            return Err(SpachError::Length.into());
+        }
+        let old = self.octets;
+        field::copy_bits(&mut self.octets, to, &old, from, count);
+        Ok(Values::new())
+    }
 }
 
-// Copies bits of the store as it was: the two runs may overlap.
-fn copy_within(store: &mut [u8], to: usize, from: usize, count: usize)
-    requires { (to + count ≤ 512) × (from + count ≤ 512) × (length store.old ≡ 64) }
-{
-    let mut old = [0u8; 64];
-    script_wire::put_all(&mut old, 0, store);
-    field::copy_bits(store, to, &old, from, count);
-}
+impl Machine for Store {
+    type Op = Op;
 
-pub fn op_copy(script: &[u8], at: usize, store: &mut [u8], answers: &mut [u8], to: usize) -> usize
-    requires { Ready 6 1 at to script.now answers.old × (length store.old ≡ 64) }
-    ensures { Answered 1 to result answers.old answers.new }
-{
-    let target = script_wire::pair(script, at);
-    let from = script_wire::pair(script, at + 2);
-    let count = script_wire::pair(script, at + 4);
-    if 512 < target + count {
-        return script_wire::answer(answers, to, 1);
+    fn run(&mut self, op: Op, operands: Operands<'_>, answers: &mut [u8]) -> usize {
+        match op {
+            Op::Take => put(answers, self.take(operands)),
+            Op::Put => put(answers, self.put(operands)),
+            Op::Fill => put(answers, fill(&mut self.octets, operands)),
+            Op::Dump => put(answers, Ok(Values::from(self.octets))),
+            Op::Copy => put(answers, self.copy(operands)),
+        }
     }
-    if 512 < from + count {
-        return script_wire::answer(answers, to, 1);
-    }
-    copy_within(store, target, from, count);
-    script_wire::answer(answers, to, 0)
 }

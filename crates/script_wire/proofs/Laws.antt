@@ -1,26 +1,18 @@
--- Laws on the octets that an operation leaves as they were. Assumes nothing.
-use mathlib.Core.Path.{◌≡◌, refl, sym, ap, ◌∙◌}
-use mathlib.Core.List.{List}
-use Prim.Native.Nat.{ℕ, ◌+◌, ◌-◌, ◌≤◌, ◌<◌}
-use native.Mathlib.Omega.{arith}
-use lib.ListN.{drop, set}
-use lib.Seq.{drop-drop, drop-set-lt}
-use Rattle.script_wire.specs.Answer.{Kept}
+-- Laws on octets that stay. Assumes nothing.
+use Rattle.std.proofs.Common.{◌≡◌, ℕ, ◌+◌, ◌-◌, ◌≤◌, List, [], length, take, drop, ap, arith, length-take, length-drop, append-nil}
+use Rattle.std.proofs.Math.Seq.{drop-append-add, drop-drop}
+use Rattle.std.proofs.Math.ListN.{drop_of_length-le}
+use Rattle.std.proofs.lemmas.Slice.{between_to_end}
+use borrow.Rule.Slice.PartMut.{put_mid, mid_of, post_of}
 
-pub kept_none : {n : ℕ} {xs : List ℕ} → Kept n xs xs
-kept_none = record { rest = refl }
+-- what stays of the room from r on stays of the whole from a + r on
+pub drop-put_mid-tail : (a r : ℕ) (xs ys : List ℕ) → a ≤ length xs → drop r ys ≡ drop r (mid_of a (length xs - a) xs) → drop (a + r) (put_mid a (length xs - a) xs ys) ≡ drop (a + r) xs
+drop-put_mid-tail a r xs ys h e =
+    let n : length (take a xs) ≡ a = simp length-take (omega arith) in
+    let none : post_of a (length xs - a) xs ≡ [] = drop_of_length-le (drop a xs) {i = length xs - a} (simp length-drop (omega arith)) in
+    let mid : mid_of a (length xs - a) xs ≡ drop a xs = between_to_end xs a (length xs) (omega arith) in
+    rw (none, append-nil) (rw (n, e, mid, drop-drop) at (drop-append-add (take a xs) ys r))
 
--- what stays from a on stays from any later place on
-pub kept_on : {a n : ℕ} {xs ys : List ℕ} → Kept a xs ys → a ≤ n → Kept n xs ys
-kept_on {a} {n} {xs} {ys} k h =
-    let e : a + (n - a) ≡ n = omega arith in
-    let d : drop (a + (n - a)) ys ≡ drop (a + (n - a)) xs =
-    sym (drop-drop (n - a) a ys) ∙ ap (drop (n - a)) k.rest ∙ drop-drop (n - a) a xs in
-    record { rest = rw e at d }
-
--- two changes after one another
-pub kept_join : {a n : ℕ} {xs ys zs : List ℕ} → Kept a xs ys → Kept n ys zs → a ≤ n → Kept n xs zs
-kept_join k l h = record { rest = l.rest ∙ (kept_on k h).rest }
-
-pub kept_set : {n : ℕ} {xs ys : List ℕ} (i v : ℕ) → Kept n xs ys → i < n → Kept n xs (set ys i v)
-kept_set {n} {xs} {ys} i v k h = record { rest = drop-set-lt n ys i v h ∙ k.rest }
+-- what two lists share from a on they share from a + r on
+pub drop-on : (a r : ℕ) (xs ys : List ℕ) → drop a xs ≡ drop a ys → drop (a + r) xs ≡ drop (a + r) ys
+drop-on a r xs ys e = rw (drop-drop r a xs, drop-drop r a ys) at (ap (drop r) e)

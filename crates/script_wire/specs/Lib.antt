@@ -1,2 +1,3 @@
--- What is promised of a comparison's operations: bounds, and octets that stay. What the answers say is compared by running.
-pub mod Answer
+-- The tables of a comparison's operations. Beside them bounds are promised, and octets that stay; what the answers say
+-- is compared by running.
+pub mod Table

@@ -1,125 +1,230 @@
-// Numbers in octets, the upper octet first, and answers.
+// What scripts are made of: operands, values and answers in octets, numbers with the upper octet first. run.rt has the
+// loop.
 #![tactic(auto)]
 
-ghost use Rattle.std.specs.Prelude.{◌≡◌, ◌+◌, ◌≤◌, ◌<◌, length};
-ghost use Rattle.script_wire.specs.Answer.{Kept, Answered};
+pub mod run;
 
-// An octet as a number.
-pub fn wide(x: u8) -> u64 {
-    x as u64
-}
+ghost use Rattle.std.specs.Prelude.{◌≡◌, ◌+◌, ◌≤◌, ◌<◌, length, IfOk};
 
-// An octet as a size.
-pub fn size(x: u8) -> usize
-    ensures { result < 256 }
-{
-    x as usize
-}
+use arrayvec::ArrayVec;
+use rach::MobileIdentity;
+use spach::Numbered;
+use std::marker::Model;
 
-// The two octets at `at`, as a size.
-pub fn pair(s: &[u8], at: usize) -> usize
-    requires { at + 2 ≤ length s.now }
-    ensures { result < 65536 }
-{
-    size(s[at]) * 256 + size(s[at + 1])
-}
+// Why an operation gives no values, as its number octet: the refusal's number, or 255 if its operands name no call.
+#[derive(Clone, Copy, Debug, PartialEq, Eq)]
+pub struct Refused(pub u8);
 
-// The eight octets at `at`.
-pub fn eight(s: &[u8], at: usize) -> u64
-    requires { at + 8 ≤ length s.now }
-{
-    let mut v: u64 = 0;
-    let mut i: usize = 0;
-    while i < 8 {
-        v = (v << 8) | wide(s[at + i]);
-        i += 1;
-    }
-    v
-}
+pub const NO_CALL: Refused = Refused(255);
 
-pub fn put_octet(s: &mut [u8], at: usize, v: u8)
-    requires { at + 1 ≤ length s.old }
-    ensures { Kept (at + 1) s.old s.new }
-{
-    s[at] = v;
-}
-
-// The low n octets of v.
-pub fn put_number(s: &mut [u8], at: usize, n: usize, v: u64)
-    requires { (at + n ≤ length s.old) × (n ≤ 8) }
-    ensures { Kept (at + n) s.old s.new }
-{
-    let mut i: usize = 0;
-    while i < n {
-        let octet = (v >> ((n - 1 - i) * 8)) & 0xff;
-        s[at + i] = octet as u8;
-        i += 1;
+impl<E: Numbered> From<E> for Refused {
+    fn from(error: E) -> Refused {
+        Refused(error.number())
     }
 }
 
-// All octets of src, to s from `at` on.
-pub fn put_all(s: &mut [u8], at: usize, src: &[u8])
-    requires { at + length src.now ≤ length s.old }
-    ensures { Kept (at + length src.now) s.old s.new }
-{
-    let mut i: usize = 0;
-    while i < src.len() {
-        s[at + i] = src[i];
-        i += 1;
+// What an operation answers: values, with the number octet 0 before them, or another number octet alone.
+pub type Answer<const N: usize> = Result<Values<N>, Refused>;
+
+// The operands of an operation that are still to be read. A clause sees their octets.
+#[derive(Drop)]
+pub struct Operands<'a> {
+    left: &'a [u8],
+}
+
+impl<'a> Model for Operands<'a> {
+    ghost use Rattle.std.specs.Prelude.{List, ℕ};
+
+    ghost Value = { List ℕ };
+
+    ghost view = { λ o. o.left.now };
+}
+
+impl<'a> Operands<'a> {
+    pub fn new(octets: &'a [u8]) -> Self
+        ensures { result ≡ octets.now }
+    {
+        Operands { left: octets }
+    }
+
+    pub fn octets<const N: usize>(&mut self) -> [u8; N]
+        requires { N ≤ length self.old }
+        ensures { length self.old ≡ length self.new + N }
+    {
+        let (octets, left) = self.left.split_first_chunk().unwrap();
+        self.left = left;
+        *octets
+    }
+
+    pub fn slice(&mut self, count: usize) -> &'a [u8]
+        requires { count ≤ length self.old }
+        ensures left { length self.old ≡ length self.new + count }
+        ensures len { length result.now ≡ count }
+    {
+        let (octets, left) = self.left.split_at(count);
+        self.left = left;
+        octets
+    }
+
+    pub fn octet(&mut self) -> u8
+        requires { 1 ≤ length self.old }
+        ensures { length self.old ≡ length self.new + 1 }
+    {
+        let [octet] = self.octets::<1>();
+        octet
+    }
+
+    pub fn two(&mut self) -> u16
+        requires { 2 ≤ length self.old }
+        ensures { length self.old ≡ length self.new + 2 }
+    {
+        u16::from_be_bytes(self.octets())
+    }
+
+    pub fn four(&mut self) -> u32
+        requires { 4 ≤ length self.old }
+        ensures { length self.old ≡ length self.new + 4 }
+    {
+        u32::from_be_bytes(self.octets())
+    }
+
+    pub fn eight(&mut self) -> u64
+        requires { 8 ≤ length self.old }
+        ensures { length self.old ≡ length self.new + 8 }
+    {
+        u64::from_be_bytes(self.octets())
+    }
+
+    // An octet that is 0 or 1.
+    pub fn flag(&mut self) -> Result<bool, Refused>
+        requires { 1 ≤ length self.old }
+        ensures { length self.old ≡ length self.new + 1 }
+    {
+        match self.octet() {
+            0 => Ok(false),
+            1 => Ok(true),
+            _ => Err(NO_CALL),
+        }
+    }
+
+    // The length of a message or of a buffer.
+    pub fn length(&mut self) -> Result<usize, Refused>
+        requires { 2 ≤ length self.old }
+        ensures left { length self.old ≡ length self.new + 2 }
+        ensures fits { IfOk result (λ n. n ≤ 304) }
+    {
+        let n = usize::from(self.two());
+        if 304 < n {
+            return Err(NO_CALL);
+        }
+        Ok(n)
+    }
+
+    // A count, and the first so many of the 32 octets after it.
+    pub fn frame(&mut self) -> Result<&'a [u8], Refused>
+        requires { 33 ≤ length self.old }
+        ensures { length self.old ≡ length self.new + 33 }
+    {
+        let count = usize::from(self.octet());
+        let octets = self.slice(32);
+        octets.get(..count).ok_or(NO_CALL)
+    }
+
+    // The identity of a type and a value, also one that cannot be encoded.
+    pub fn identity(&mut self) -> Result<MobileIdentity, Refused>
+        requires { 9 ≤ length self.old }
+        ensures { length self.old ≡ length self.new + 9 }
+    {
+        let identity_type = self.octet();
+        let value = self.eight();
+        match (identity_type, u32::try_from(value)) {
+            (0, Ok(value)) => Ok(MobileIdentity::Tmsi20(value)),
+            (1, Ok(value)) => Ok(MobileIdentity::Tmsi24(value)),
+            (2, _) => Ok(MobileIdentity::Min34(value)),
+            (3, _) => Ok(MobileIdentity::Imsi50(value)),
+            _ => Err(NO_CALL),
+        }
     }
 }
 
-// A value of an answer: how many octets it has, at most eight, and the number in them.
-#[derive(Clone, Copy)]
-pub struct Value(pub usize, pub u64);
-
-// Puts the value; the place after it.
-fn put_value(s: &mut [u8], at: usize, v: Value) -> usize
-    requires { (at + v.0 ≤ length s.old) × (v.0 ≤ 8) }
-    ensures { (result ≡ at + v.0) × Kept result s.old s.new }
-{
-    put_number(s, at, v.0, v.1);
-    at + v.0
+// The values of an answer, at most N octets. A clause sees the octets.
+#[derive(Drop)]
+pub struct Values<const N: usize> {
+    octets: ArrayVec<u8, N>,
 }
 
-// The number octet 0, and values after it.
-pub fn answer_values(answers: &mut [u8], to: usize, a: Value, b: Value, c: Value, d: Value) -> usize
-    requires { (to + (1 + a.0 + b.0 + c.0 + d.0) ≤ length answers.old) × (a.0 ≤ 8) × (b.0 ≤ 8) × (c.0 ≤ 8) × (d.0 ≤ 8) }
-    ensures { Answered (1 + a.0 + b.0 + c.0 + d.0) to result answers.old answers.new }
-{
-    put_octet(answers, to, 0);
-    let after_a = put_value(answers, to + 1, a);
-    let after_b = put_value(answers, after_a, b);
-    let after_c = put_value(answers, after_b, c);
-    put_value(answers, after_c, d) - to
+impl<const N: usize> Model for Values<N> {
+    ghost use Rattle.std.specs.Prelude.{List, ℕ};
+
+    ghost Value = { List ℕ };
+
+    ghost view = { λ v. v.octets.items };
 }
 
-// An answer that is the number octet alone.
-pub fn answer(answers: &mut [u8], to: usize, number: u8) -> usize
-    requires { to + 1 ≤ length answers.old }
-    ensures { Answered 1 to result answers.old answers.new }
-{
-    put_octet(answers, to, number);
-    1
-}
-
-// What a call gave: a refusal's number alone, or the number octet 0 and the value after it.
-pub fn reply(answers: &mut [u8], to: usize, number: u8, value: Value) -> usize
-    requires { (to + (1 + value.0) ≤ length answers.old) × (value.0 ≤ 8) }
-    ensures { Answered (1 + value.0) to result answers.old answers.new }
-{
-    if number != 0 {
-        return answer(answers, to, number);
+impl<const N: usize> From<[u8; N]> for Values<N> {
+    fn from(octets: [u8; N]) -> Self {
+        Values {
+            octets: octets.into(),
+        }
     }
-    answer_values(answers, to, value, Value(0, 0), Value(0, 0), Value(0, 0))
 }
 
-// The number octet 0, and octets after it.
-pub fn answer_octets(answers: &mut [u8], to: usize, octets: &[u8]) -> usize
-    requires { to + (1 + length octets.now) ≤ length answers.old }
-    ensures { Answered (1 + length octets.now) to result answers.old answers.new }
-{
-    put_octet(answers, to, 0);
-    put_all(answers, to + 1, octets);
-    1 + octets.len()
+impl Values<1> {
+    // One octet, 1 or 0.
+    pub fn flag(flag: bool) -> Self {
+        Values::from([u8::from(flag)])
+    }
+}
+
+impl<const N: usize> Values<N> {
+    pub fn new() -> Self
+        ensures { length result ≡ 0 }
+    {
+        Values {
+            octets: ArrayVec::new(),
+        }
+    }
+
+    pub fn push(&mut self, octet: u8)
+        requires { length self.old < N }
+        ensures { length self.new ≡ length self.old + 1 }
+    {
+        self.octets.push(octet);
+    }
+
+    pub fn extend(&mut self, octets: &[u8])
+        requires { length self.old + length octets.now ≤ N }
+        ensures { length self.new ≡ length self.old + length octets.now }
+    {
+        self.octets.try_extend_from_slice(octets).unwrap();
+    }
+
+    // Eight octets.
+    pub fn number(&mut self, number: u64)
+        requires { length self.old + 8 ≤ N }
+        ensures { length self.new ≡ length self.old + 8 }
+    {
+        self.extend(&number.to_be_bytes());
+    }
+
+    // Type and value.
+    pub fn identity(&mut self, identity: MobileIdentity)
+        requires { length self.old + 9 ≤ N }
+        ensures { length self.new ≡ length self.old + 9 }
+    {
+        let parts = identity.parts();
+        self.push(parts.identity_type);
+        self.number(parts.value);
+    }
+
+    pub fn as_slice(&self) -> &[u8]
+        ensures { length result.now ≤ N }
+    {
+        &self.octets
+    }
+}
+
+// The octet of a number that is below 256.
+pub fn low(number: usize) -> u8 {
+    (number & 0xff) as u8
 }

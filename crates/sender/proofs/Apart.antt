@@ -1,55 +1,50 @@
--- The readings of the sender's answers tell any two answers apart. Assumes nothing.
-use mathlib.Core.Path.{◌≡◌, refl, ap}
+-- The readings of the sender's answers tell any two answers apart: nothing of an answer is left free. Assumes nothing.
+use mathlib.Core.Path.{◌≡◌, ap, ap₂}
 use mathlib.Core.Bool.{Bool}
-use mathlib.Core.Option.{Option}
-use Rattle.spach.specs.Refusal.{Outcome, gives, refuses}
-use Rattle.spach.proofs.Apart.{apart}
+use Rattle.std.specs.Prelude.{Option, Result}
+use Rattle.spach.specs.Refusal.{by_number, left}
+use Rattle.spach.proofs.Apart.{answers_apart}
+use Rattle.spach.proofs.Apart as answers
+use Rattle.spach.proofs.Outcomes.{gives_same}
 use Rattle.transfer.specs.declared.Error.{Error}
-use Rattle.transfer.specs.declared.Confirmation.TheVariants.{NotFound, Found}
-use Rattle.transfer.proofs.Apart as read
-use Rattle.transfer.proofs.Apart.{refused_by, refusal_number, confirmation_read}
-use Rattle.sender.specs.declared.Verdict.{Verdict}
-use Rattle.sender.specs.declared.Verdict.TheVariants as verdicts
-use Rattle.sender.specs.declared.EnqueueAnswer.{EnqueueAnswer}
-use Rattle.sender.specs.declared.EnqueueAnswer.TheVariants as enqueues
-use Rattle.sender.specs.declared.FoundAnswer.{FoundAnswer}
-use Rattle.sender.specs.declared.FoundAnswer.TheVariants as founds
-use Rattle.sender.specs.declared.ConfirmationAnswer.{ConfirmationAnswer}
-use Rattle.sender.specs.declared.ConfirmationAnswer.TheVariants as confirmations
-use Rattle.sender.specs.Answers.{verdict_of, enqueue_answer, found_answer, confirmation_answer}
+use Rattle.transfer.specs.declared.Event.{Event}
+use Rattle.transfer.specs.declared.PreparedFrame.{PreparedFrame}
+use Rattle.transfer.specs.declared.TransferToken.{TransferToken}
+use Rattle.transfer.specs.Numbers.{refusal_of, next_of}
+use Rattle.transfer.specs.State.{View, Lent, says}
+use Rattle.transfer.proofs.Apart.{refusals_apart, events_apart}
+use Rattle.sender.specs.View.{wrote}
 
--- the answer of an outcome
-abbrev answer_of : {A X : Type 0} → (A → X) → (Error → X) → Outcome A → X
-answer_of value refused (gives a) = value a
-answer_of value refused (refuses n) = refused (refused_by n)
+-- the constructor's
+pub made_apart : (a b : Result View Error) → by_number refusal_of a ≡ by_number refusal_of b → a ≡ b
+made_apart = answers_apart refusal_of refusals_apart
 
-pub verdicts_apart : (a b : Verdict) → verdict_of a ≡ verdict_of b → a ≡ b
-verdicts_apart = apart verdict_of (answer_of (λ u. verdicts.Accepted) verdicts.Refused) undo
-  where
-    undo : (a : Verdict) → answer_of (λ u. verdicts.Accepted) verdicts.Refused (verdict_of a) ≡ a
-    undo verdicts.Accepted = refl
-    undo (verdicts.Refused e) = ap verdicts.Refused (refusal_number e)
+-- ---- the answers of the calls with a clock
 
-pub tokens_apart : (a b : EnqueueAnswer) → enqueue_answer a ≡ enqueue_answer b → a ≡ b
-tokens_apart = apart enqueue_answer (answer_of enqueues.Transfer enqueues.Refused) undo
-  where
-    undo : (a : EnqueueAnswer) → answer_of enqueues.Transfer enqueues.Refused (enqueue_answer a) ≡ a
-    undo (enqueues.Transfer t) = refl
-    undo (enqueues.Refused e) = ap enqueues.Refused (refusal_number e)
+pub verdicts_apart : (a b : Result Unit Error) → by_number refusal_of a ≡ by_number refusal_of b → a ≡ b
+verdicts_apart = answers_apart refusal_of refusals_apart
 
-pub founds_apart : (a b : FoundAnswer) → found_answer a ≡ found_answer b → a ≡ b
-founds_apart = apart found_answer (answer_of founds.Found founds.Refused) undo
-  where
-    undo : (a : FoundAnswer) → answer_of founds.Found founds.Refused (found_answer a) ≡ a
-    undo (founds.Found b) = refl
-    undo (founds.Refused e) = ap founds.Refused (refusal_number e)
+pub tokens_apart : (a b : Result TransferToken Error) → by_number refusal_of a ≡ by_number refusal_of b → a ≡ b
+tokens_apart = answers_apart refusal_of refusals_apart
 
-pub confirmations_apart : (a b : ConfirmationAnswer) → confirmation_answer a ≡ confirmation_answer b → a ≡ b
-confirmations_apart = apart confirmation_answer (answer_of back confirmations.Refused) undo
-  where
-    back : Option Bool → ConfirmationAnswer
-    back o = confirmations.Confirmation (read.answer_of NotFound Found o)
+pub frames_apart : (a b : Result (Option PreparedFrame) Error) → by_number refusal_of a ≡ by_number refusal_of b → a ≡ b
+frames_apart = answers_apart refusal_of refusals_apart
 
-    undo : (a : ConfirmationAnswer) → answer_of back confirmations.Refused (confirmation_answer a) ≡ a
-    undo (confirmations.Confirmation c) = ap confirmations.Confirmation (confirmation_read c)
-    undo (confirmations.Refused e) = ap confirmations.Refused (refusal_number e)
+pub founds_apart : (a b : Result Bool Error) → by_number refusal_of a ≡ by_number refusal_of b → a ≡ b
+founds_apart = answers_apart refusal_of refusals_apart
+
+pub confirmations_apart : (a b : Result (Option Bool) Error) → by_number refusal_of a ≡ by_number refusal_of b → a ≡ b
+confirmations_apart = answers_apart refusal_of refusals_apart
+
+-- ---- with the sender that is handed back
+
+pub left_apart : {A : Type 0} (a b : View × Result A Error) → left refusal_of a ≡ left refusal_of b → a ≡ b
+left_apart = answers.left_apart refusal_of refusals_apart
+
+-- and with the lent memory
+pub wrote_apart : {A : Type 0} (a b : View × Result A Error) (m n : Lent) → wrote a m ≡ wrote b n → (a ≡ b) × (m ≡ n)
+wrote_apart a b m n e = (ap₂ (λ v r. (v, r)) (ap (λ o. o.sender) e) (answers_apart refusal_of refusals_apart a.1 b.1 (ap (λ o. o.outcome) e)), ap (λ o. o.lent) e)
+
+-- an event that is taken
+pub popped_apart : (a b : Option Event) (v w : View) → says (next_of a) v ≡ says (next_of b) w → (a ≡ b) × (v ≡ w)
+popped_apart a b v w e = (events_apart a b (gives_same (ap (λ x. x.outcome) e)), ap (λ x. x.state) e)

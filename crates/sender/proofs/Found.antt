@@ -1,71 +1,33 @@
--- What a search for a transfer tells: whether one passes the test, where it stands, and that it is live. Assumes nothing.
+-- What a transfer is that the code read at a place of the list: it stands there, and is live. Assumes nothing.
 use mathlib.Core.Path.{◌≡◌, sym, ap, subst, ◌∙◌}
-use mathlib.Core.Bool.{Bool, true, false, cond}
 use mathlib.Core.List.{List}
-use Prim.Native.Nat.{ℕ, ◌+◌, ◌*◌, ◌≤◌, ◌<◌}
+use Prim.Native.Nat.{ℕ, ◌+◌, ◌*◌, ◌<◌, ◌≤◌}
 use native.Mathlib.Omega.{arith}
-use borrow.Author.Tests.{ltb-true}
 use lib.ListN.{length, get_or}
-use Rattle.transfer.specs.declared.Place.{Place}
+use Rattle.std.proofs.lemmas.List.{get_or_default}
 use Rattle.transfer.specs.declared.Transfer.{Transfer}
+use Rattle.transfer.specs.State.{View, blank_transfer}
 use Rattle.transfer.specs.Invariant.{Live, Sound}
-use Rattle.transfer.specs.Lists.{position, any}
-use Rattle.transfer.specs.Sought.{place_of}
-use Rattle.transfer.specs.State.{View, seek, blank_transfer}
-use Rattle.transfer.proofs.Alive.{frames_live}
-use Rattle.transfer.proofs.Asked.{any_found}
 use Rattle.transfer.proofs.Listed.{all-at}
 
--- some transfer passes exactly if the search finds one
-pub held_any : (test : Transfer → Bool) (l : List Transfer) {r : Place} → r ≡ place_of test l → r.held ≡ any test l
-held_any test l e = ap (λ (p : Place). p.held) e ∙ sym (any_found test l)
+-- m is the list as the code has it, x what it read at place i
+module _ (v : View) {m : List Transfer} {i : ℕ} {x : Transfer} (e : m ≡ v.transfers) (is : x ≡ get_or m i x) (lt : i < length v.transfers) where
+  -- it stands there
+  pub there : x ≡ get_or v.transfers i blank_transfer
+  there = is ∙ (ap (λ (l : List Transfer). get_or l i x) e ∙ get_or_default v.transfers i x blank_transfer lt)
 
-module _ {A : Type 0} (test : Transfer → Bool) (l : List Transfer) (nothing : A) (found : ℕ → Transfer → A) {r : Place} (e : r ≡ place_of test l) where
-  -- what is said of the answer is what is said of the search
-  by_held : (b : Bool) → r.held ≡ b → cond b (found r.place r.transfer) nothing ≡ seek test l nothing found
-  by_held b h = ap (λ (t : Bool). cond t (found r.place r.transfer) nothing) (sym h) ∙ ap (λ (p : Place). cond p.held (found p.place p.transfer) nothing) e
+  module _ (h : Sound v) where
+    -- it is live
+    pub live_there : Live v.limits v.clock v.echoes v.next_token x
+    live_there = subst (Live v.limits v.clock v.echoes v.next_token) (sym there) (all-at v.transfers i blank_transfer lt h.transfers)
 
-  -- one passes
-  pub seek_found : r.held ≡ true → found r.place r.transfer ≡ seek test l nothing found
-  seek_found h = by_held true h
+    -- its words are among the 3456
+    pub place_low : x.parcel.n < 128
+    place_low = let a = live_there.place in let b = h.most_capacity in omega arith
 
-  -- none passes
-  pub seek_none : r.held ≡ false → nothing ≡ seek test l nothing found
-  seek_none h = by_held false h
-
-module _ (test : Transfer → Bool) (l : List Transfer) {r : Place} (e : r ≡ place_of test l) where
-  -- it is in the list
-  pub found_low : r.held ≡ true → r.place < length l
-  found_low t =
-      subst (λ (i : ℕ). i < length l) (sym (ap (λ (p : Place). p.place) e))
-      (ltb-true (position test l) (length l) (sym (ap (λ (p : Place). p.held) e) ∙ t))
-
-  -- it is what stands at its place
-  pub found_there : r.transfer ≡ get_or l r.place blank_transfer
-  found_there = ap (λ (p : Place). p.transfer) e ∙ ap (λ (p : Place). get_or l p.place blank_transfer) (sym e)
-
-module _ (test : Transfer → Bool) (v : View) {r : Place} (e : r ≡ place_of test v.transfers) (t : r.held ≡ true) (h : Sound v) where
-  -- it is live
-  pub found_live : Live v.limits v.clock v.echoes v.next_token r.transfer
-  found_live =
-      subst (Live v.limits v.clock v.echoes v.next_token) (sym (found_there test v.transfers e))
-      (all-at v.transfers r.place blank_transfer (found_low test v.transfers e t) h.transfers)
-
-  -- its frames are at most 27
-  pub found_frames : r.transfer.parcel.frames ≤ 27
-  found_frames = (frames_live r.transfer found_live).1
-
-  -- its words are among the 3456
-  pub found_words : r.transfer.parcel.n < 128
-  found_words = let a = found_live.place in let b = h.most_capacity in omega arith
-
-  -- its message is in the lent store
-  pub found_room : (n : ℕ) → 32640 ≤ n → 255 * r.transfer.parcel.n + r.transfer.parcel.octets ≤ n
-  found_room n long =
-      let low = found_words in
-      let most = found_live.accepted.most_octets in
-      omega arith
-
--- with a transfer at a place, one event more has room
-pub event_room : (v : View) (place : ℕ) → place < length v.transfers → Sound v → length v.events < 256
-event_room v place lt h = let a = h.accounted in let b = h.most_capacity in omega arith
+    -- its message is in the lent store
+    pub message_room : (n : ℕ) → 32640 ≤ n → 255 * x.parcel.n + x.parcel.octets ≤ n
+    message_room n long =
+        let low = place_low in
+        let most = live_there.accepted.most_octets in
+        omega arith

@@ -1,12 +1,11 @@
 pub mod Admitted
 pub mod Apart
-pub mod Asking
+pub mod Asked
 pub mod Chosen
 pub mod Found
 pub mod Granted
 pub mod Handed
+pub mod Heard
 pub mod Oldest
 pub mod Readings
-pub mod Shifts
-pub mod Slots
 pub mod Turns

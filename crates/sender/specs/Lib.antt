@@ -1,5 +1,4 @@
--- What the contracts of `Sender` say, in the terms of crates/transfer/specs. Believe Arrays (`view_of`: what the arrays stand for),
--- then Answers: 01's number for each answer. Asked serves the code alone.
-pub mod Arrays
-pub mod Answers
+-- What the contracts of `Sender` say, in the terms of crates/transfer/specs, which speak of a sender as a `View`. Believe View: which field of the
+-- code stands for which, and what the calls are lent and leave there. Asked serves the code alone.
+pub mod View
 pub mod Asked

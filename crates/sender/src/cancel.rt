@@ -1,71 +1,57 @@
-// Transfers cancelled, and the oldest event taken.
+// Transfers cancelled.
 // Ported from runtime/spach_arq.rs (chrismoos/136-bts 7c60b63bf4, Apache-2.0) and changed: see NOTICE.
-ghost use Rattle.std.specs.Prelude.{◌≡◌, ◌<◌, length, drop};
-ghost use Rattle.transfer.specs.Cancel.{cancel_first, cancel_all_of};
-ghost use Rattle.transfer.specs.Sought.{key_of};
-ghost use Rattle.transfer.specs.State.{with_events};
-ghost use Rattle.sender.specs.Answers.{cancelled};
-ghost use Rattle.sender.specs.Arrays.{view_of, Fitted, Whole};
+ghost use Rattle.std.specs.Prelude.{◌≡◌, ◌+◌, ◌≤◌, ◌<◌, get_or, length};
+ghost use Rattle.transfer.specs.Cancel.{cancel_all_of};
+ghost use Rattle.transfer.specs.Enqueue.{replaced};
+ghost use Rattle.transfer.specs.State.{cancel_at, blank_transfer};
 
-use super::fresh::unselected;
-use super::table::{cancel_at, find};
-use super::{Cancelled, EventSlot, Sender};
-use transfer::{Event, Key};
+use super::Sender;
+use super::table::Table;
+use rach::MobileIdentity;
+use transfer::Event;
 
-// Each transfer's Cancelled waits behind the other events, in their order; none is live, and nothing is selected.
-pub fn all_cancelled(s: Sender) -> Sender
-    requires { Whole s }
-    ensures { Fitted result × (view_of result ≡ cancel_all_of (view_of s)) }
-{
-    let n = s.pending;
-    let m = s.waiting;
-    let mut r = s;
-    let mut i = 0;
-    while i < n {
-        let x = r.transfers[i];
-        let p = x.parcel;
-        let event = Event::Cancelled(p.completion);
-        r.events[m + i] = EventSlot { event: event };
-        i += 1;
+impl Table {
+    ghost use Rattle.sender.specs.View.{view_of};
+
+    // Each transfer's Cancelled waits behind the other events, in their order; none is live, and nothing is selected.
+    #[tactic(auto, unfolding(transfer::specs::Cancel::cancel_all_of))]
+    fn cancel_each(&mut self)
+        requires { length self.old.transfers.items + length self.old.events.items ≤ 256 }
+        ensures { view_of self.new ≡ cancel_all_of (view_of self.old) }
+    {
+        let events = &mut self.events;
+        for x in self.transfers.iter() {
+            events.push(Event::Cancelled(x.parcel.completion));
+        }
+        self.transfers.clear();
+        self.selected = None;
     }
-    r.selected = unselected();
-    r.pending = 0;
-    r.waiting = m + n;
-    r
 }
 
-// The oldest event is taken out.
-pub fn popped(s: Sender) -> Sender
-    requires { Fitted s × (0 < length (view_of s).events) }
-    ensures { Fitted result × (view_of result ≡ with_events (view_of s) (drop 1 (view_of s).events)) }
-{
-    let mut r = s;
-    let m = r.waiting - 1;
-    let mut i = 0;
-    while i < m {
-        r.events[i] = r.events[i + 1];
-        i += 1;
+impl Sender {
+    // The transfer at a place is taken out, and Cancelled.
+    pub(crate) fn cancel_at(&mut self, place: usize)
+        requires { place < length self.old.transfers }
+        ensures { self.new ≡ cancel_at self.old place (get_or self.old.transfers place blank_transfer) }
+    {
+        let x = self.table.transfers.remove(place);
+        self.table
+            .end(x.generation, Event::Cancelled(x.parcel.completion));
     }
-    r.waiting = m;
-    r
-}
 
-// The first transfer sought is taken out, and Cancelled; whether there was one.
-pub fn cancel_first(s: Sender, key: Key) -> Cancelled
-    requires { Whole s }
-    ensures { Fitted result.sender × (cancelled result ≡ cancel_first (key_of key) (view_of s)) }
-{
-    let found = find(s, key);
-    let x = found.transfer;
-    if !found.held {
-        return Cancelled {
-            sender: s,
-            found: false,
-        };
+    // A transfer to the same identity is taken out, and Cancelled.
+    pub(crate) fn replace(&mut self, identity: MobileIdentity)
+        ensures { self.new ≡ replaced self.old identity }
+    {
+        if let Some(place) = self.table.place_of_identity(identity) {
+            self.cancel_at(place);
+        }
     }
-    let r = cancel_at(s, found.place, x);
-    Cancelled {
-        sender: r,
-        found: true,
+
+    // All are.
+    pub(crate) fn cancel_each(&mut self)
+        ensures { self.new ≡ cancel_all_of self.old }
+    {
+        self.table.cancel_each();
     }
 }

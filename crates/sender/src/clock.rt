@@ -1,54 +1,62 @@
 // What every call with a clock asks first.
 // Ported from runtime/spach_arq.rs (chrismoos/136-bts 7c60b63bf4, Apache-2.0) and changed: see NOTICE.
-ghost use Rattle.std.specs.Prelude.{◌≡◌};
-ghost use Rattle.sender.specs.Answers.{verdict_of};
-ghost use Rattle.sender.specs.Asked.{is_short, tick_of, admit_of};
+ghost use Rattle.std.specs.Prelude.{◌≡◌, ◌+◌, ◌≤◌, MatchResult, OnOk, length};
+ghost use Rattle.token.specs.Token.{stop};
+ghost use Rattle.spach.specs.Refusal.{gives, refuses};
+ghost use Rattle.transfer.specs.Numbers.{refusal_of};
+ghost use Rattle.transfer.specs.State.{short, ticked, admitted};
+ghost use Rattle.sender.specs.View.{lent};
 
-use super::Verdict;
+use super::Sender;
 use spach::SpachError;
 use token::fewer_than;
-use transfer::Error;
 use transfer::constants::{CALL_TOKENS, STORE_OCTETS, STORE_WORDS};
+use transfer::{Clock, Error};
 
 // Fewer than 32,640 octets or fewer than 3,456 words.
-pub fn short(octets: usize, words: usize) -> bool
-    ensures { result ≡ is_short octets words }
+pub fn is_short(store: &[u8], words: &[u64]) -> bool
+    ensures { result ≡ short (lent store.now words.now) }
 {
-    if octets < STORE_OCTETS {
-        return true;
-    }
-    words < STORE_WORDS
+    store.len() < STORE_OCTETS || words.len() < STORE_WORDS
 }
 
-// Either clock gone back 22.
-pub fn tick(last_block: u64, last_ms: u64, block: u64, now_ms: u64) -> Verdict
-    ensures { verdict_of result ≡ tick_of last_block last_ms block now_ms }
-{
-    if block < last_block {
-        return Verdict::Refused(Error::Clock);
+impl Sender {
+    // Either clock gone back 22; else both move.
+    pub(crate) fn tick(&mut self, block: u64, now_ms: u64) -> Result<(), Error>
+        ensures said { MatchResult result (λ _. ticked self.old block now_ms ≡ gives self.new)
+            (λ e. (ticked self.old block now_ms ≡ refuses (refusal_of e)) × (self.new ≡ self.old)) }
+        ensures tokens { self.new.next_token ≡ self.old.next_token }
+    {
+        let clock = self.table.clock;
+        if block < clock.last_block || now_ms < clock.last_ms {
+            return Err(Error::Clock);
+        }
+        self.table.clock = Clock {
+            last_block: block,
+            last_ms: now_ms,
+        };
+        Ok(())
     }
-    if now_ms < last_ms {
-        return Verdict::Refused(Error::Clock);
-    }
-    Verdict::Accepted
-}
 
-// 16, 18, 22.
-pub fn admit(
-    lacking: bool,
-    next_token: u64,
-    last_block: u64,
-    last_ms: u64,
-    block: u64,
-    now_ms: u64,
-) -> Verdict
-    ensures { verdict_of result ≡ admit_of lacking next_token last_block last_ms block now_ms }
-{
-    if lacking {
-        return Verdict::Refused(Error::Wire(SpachError::Room));
+    // 16, 18, 22; else the clock moves.
+    pub(crate) fn admit(
+        &mut self,
+        block: u64,
+        now_ms: u64,
+        store: &[u8],
+        words: &[u64],
+    ) -> Result<(), Error>
+        ensures said { MatchResult result (λ _. admitted self.old (lent store.now words.now) block now_ms ≡ gives self.new)
+            (λ e. (admitted self.old (lent store.now words.now) block now_ms ≡ refuses (refusal_of e)) × (self.new ≡ self.old)) }
+        ensures tokens { OnOk result (512 + self.new.next_token ≤ stop) }
+        ensures room { OnOk result ((32640 ≤ length store.now) × (3456 ≤ length words.now)) }
+    {
+        if is_short(store, words) {
+            return Err(Error::Wire(SpachError::Room));
+        }
+        if fewer_than(CALL_TOKENS, self.table.next_token) {
+            return Err(Error::Wire(SpachError::Tokens));
+        }
+        self.tick(block, now_ms)
     }
-    if fewer_than(CALL_TOKENS, next_token) {
-        return Verdict::Refused(Error::Wire(SpachError::Tokens));
-    }
-    tick(last_block, last_ms, block, now_ms)
 }

@@ -1,204 +1,152 @@
 // A request granted or refused, and what it leaves if it is granted.
 // Ported from runtime/spach_arq.rs (chrismoos/136-bts 7c60b63bf4, Apache-2.0) and changed: see NOTICE.
-ghost use Rattle.std.specs.Prelude.{not, ◌≡◌, [], ℕ, ◌≤◌, ◌<◌, eqb, length, get_or};
-ghost use Rattle.spach.specs.Refusal.{gives};
-ghost use Rattle.transfer.specs.Enqueue as definition;
+ghost use Rattle.std.specs.Prelude.{◌≡◌, false, not, List, ℕ, ◌≤◌, ◌<◌, eqb, get_or, length, position};
 ghost use Rattle.transfer.specs.Lists.{any};
+ghost use Rattle.token.specs.Token.{stop};
+ghost use Rattle.spach.specs.Refusal.{gives, by_number};
+ghost use Rattle.transfer.specs.Enqueue as definition;
+ghost use Rattle.transfer.specs.Numbers.{refusal_of};
 ghost use Rattle.transfer.specs.Transfer.{begun as begins};
-ghost use Rattle.sender.specs.Answers.{verdict_of, grant_answer, enqueued};
-ghost use Rattle.sender.specs.Arrays.{view_of, lent, Fitted, Whole};
-ghost use Rattle.sender.specs.Asked.{screen_of};
+ghost use Rattle.sender.specs.View.{lent, wrote};
 
-use super::table::{cancel_at, find, pushed};
-use super::{EnqueueAnswer, Enqueued, GrantAnswer, Sender, Verdict};
-use arq::CountAnswer;
+use super::Sender;
+use super::table::Table;
 use arq::cut::fragment_count;
-use rach::MobileIdentity;
 use spach::SpachError;
 use token::number_after;
 use transfer::constants::ECHO_VALUES;
-use transfer::echo::free_echo;
 use transfer::frame::header_of;
+use transfer::frame_count::FrameCount;
 use transfer::settling::begun;
 use transfer::store::store_message;
-use transfer::{Error, FreeEcho, Key, Parcel, Request, Transfer, TransferToken};
+use transfer::{Error, Grant, Parcel, Request, Transfer, TransferToken};
 
-// Events at capacity 20; deadline not after now 23; empty 1; none replaced and transfers at capacity 20.
-fn screen(
-    capacity: usize,
-    waiting: usize,
-    pending: usize,
-    deadline_ms: u64,
-    last_ms: u64,
-    octets: usize,
-    replaces: bool,
-) -> Verdict
-    ensures { verdict_of result ≡ screen_of capacity waiting pending deadline_ms last_ms octets replaces }
-{
-    if capacity <= waiting {
-        return Verdict::Refused(Error::Capacity);
-    }
-    if deadline_ms <= last_ms {
-        return Verdict::Refused(Error::Deadline);
-    }
-    if octets == 0 {
-        return Verdict::Refused(Error::Wire(SpachError::Length));
-    }
-    if replaces {
-        return Verdict::Accepted;
-    }
-    if capacity <= pending {
-        return Verdict::Refused(Error::Capacity);
-    }
-    Verdict::Accepted
-}
+impl Table {
+    ghost use Rattle.sender.specs.View.{view_of};
 
-// Before the first block 21; deadline plus guard over 64 bits 23; no echo free 21.
-fn allocate_echo(s: Sender, deadline_ms: u64, frames: u8) -> GrantAnswer
-    requires { Whole s }
-    ensures { grant_answer result ≡ definition.allocated (view_of s).limits (view_of s).clock (view_of s).echoes deadline_ms frames }
-{
-    if s.last_block < s.startup_until_block {
-        return GrantAnswer::Refused(Error::EchoExhausted);
-    }
-    if 18446744073709551615 - deadline_ms < s.echo_guard_ms {
-        return GrantAnswer::Refused(Error::Deadline);
-    }
-    match free_echo(&s.echo_until_ms, s.next_echo, s.last_ms) {
-        FreeEcho::Nothing => GrantAnswer::Refused(Error::EchoExhausted),
-        FreeEcho::Echo(echo) => GrantAnswer::Granted {
-            frames: frames,
-            echo: echo,
-        },
-    }
-}
-
-// The refusals in their order.
-pub fn grant(s: Sender, request: Request, message: &[u8]) -> GrantAnswer
-    requires { Whole s }
-    ensures { grant_answer result ≡ definition.grant_of (view_of s) request message.now }
-{
-    let identity = request.identity;
-    let channel = request.channel;
-    let found = find(s, Key::Identity(identity));
-    let verdict = screen(
-        s.capacity,
-        s.waiting,
-        s.pending,
-        request.deadline_ms,
-        s.last_ms,
-        message.len(),
-        found.held,
-    );
-    if let Verdict::Refused(error) = verdict {
-        return GrantAnswer::Refused(error);
-    }
-    let header = header_of(channel, 0, false);
-    match fragment_count(header, identity, message) {
-        CountAnswer::Refused(error) => GrantAnswer::Refused(Error::Wire(error)),
-        CountAnswer::Frames(frames) => allocate_echo(s, request.deadline_ms, frames as u8),
-    }
-}
-
-// A transfer to the same identity is taken out, and Cancelled.
-pub fn replace(s: Sender, identity: MobileIdentity) -> Sender
-    requires { Whole s }
-    ensures { Fitted result × (view_of result ≡ definition.replaced (view_of s) identity) }
-{
-    let found = find(s, Key::Identity(identity));
-    let x = found.transfer;
-    if !found.held {
-        return s;
-    }
-    cancel_at(s, found.place, x)
-}
-
-// Which places in the lent store the live transfers have: 1 at each of theirs.
-fn places(s: Sender) -> [u64; ECHO_VALUES]
-    requires { Whole s }
-    ensures { (length result ≡ 128) × ((k : ℕ) → k < 128 → eqb (get_or result k 0) 0 ≡ not (any (λ x. eqb x.parcel.n k) (view_of s).transfers)) }
-{
-    let n = s.pending;
-    let mut taken = [0u64; ECHO_VALUES];
-    let mut i = 0;
-    while i < n {
-        let x = s.transfers[i];
-        let p = x.parcel;
-        taken[p.n as usize] = 1;
-        i += 1;
-    }
-    taken
-}
-
-// The lowest place that no live transfer has.
-pub fn lowest_place(s: Sender) -> usize
-    requires { Whole s }
-    ensures { result ≡ definition.lowest_n (view_of s).transfers }
-{
-    let taken = places(s);
-    let mut k = 0;
-    while k < ECHO_VALUES {
-        if taken[k] == 0 {
-            return k;
+    // The refusals in their order.
+    #[tactic(auto, unfolding(transfer::specs::Enqueue::grant_of))]
+    fn grant(&self, request: Request, message: &[u8]) -> Result<Grant, Error>
+        ensures { by_number refusal_of result ≡ definition.grant_of (view_of self.now) request message.now }
+    {
+        let capacity = self.limits.capacity;
+        if capacity <= self.events.len() {
+            return Err(Error::Capacity);
         }
-        k += 1;
+        if request.deadline_ms <= self.clock.last_ms {
+            return Err(Error::Deadline);
+        }
+        if message.is_empty() {
+            return Err(Error::Wire(SpachError::Length));
+        }
+        if !self.contains(request.identity) && capacity <= self.transfers.len() {
+            return Err(Error::Capacity);
+        }
+        let header = header_of(request.channel, 0, false);
+        let frames = fragment_count(header, request.identity, message)?;
+        self.allocate_echo(request.deadline_ms, FrameCount::new(frames as u8))
     }
-    ECHO_VALUES
+
+    // Before the first block 21; deadline plus guard over 64 bits 23; no echo free 21.
+    fn allocate_echo(&self, deadline_ms: u64, frames: FrameCount) -> Result<Grant, Error>
+        ensures { by_number refusal_of result ≡ definition.allocated self.now.limits self.now.clock self.now.echoes deadline_ms frames }
+    {
+        if self.clock.last_block < self.limits.startup_until_block {
+            return Err(Error::EchoExhausted);
+        }
+        if deadline_ms.checked_add(self.limits.echo_guard_ms).is_none() {
+            return Err(Error::Deadline);
+        }
+        match self.echoes.free_echo(self.clock.last_ms) {
+            None => Err(Error::EchoExhausted),
+            Some(echo) => Ok(Grant { frames, echo }),
+        }
+    }
 }
 
 // The transfer of a request: its owner and its first generation are one number.
-fn newcomer(
-    request: Request,
-    message: &[u8],
-    frames: u8,
-    n: usize,
-    echo: u8,
-    token: u64,
-) -> Transfer
-    requires { (length message.now ≤ 255) × (frames ≤ 27) × (n < 128) }
-    ensures { result ≡ begins (definition.parcel_of request message.now frames n token) echo token }
+fn newcomer(request: Request, message: &[u8], grant: Grant, n: usize, token: u64) -> Transfer
+    requires { (length message.now ≤ 255) × (n < 128) }
+    ensures { result ≡ begins (definition.parcel_of request message.now grant.frames n token) grant.echo token }
 {
-    let identity = request.identity;
-    let channel = request.channel;
     let parcel = Parcel {
-        identity: identity,
+        identity: request.identity,
         completion: request.completion,
         deadline_ms: request.deadline_ms,
         owner: TransferToken(token),
-        channel: channel,
+        channel: request.channel,
         octets: message.len() as u8,
-        frames: frames,
+        frames: grant.frames,
         n: n as u8,
     };
-    begun(parcel, echo, token)
+    begun(parcel, grant.echo, token)
 }
 
-// The echo is held, a transfer to the same identity replaced, the message stored, and its transfer put at the back.
-pub fn accept(
-    s: Sender,
-    request: Request,
-    message: &[u8],
-    frames: u8,
-    echo: u8,
-    store: &mut [u8],
-) -> Enqueued
-    requires { Whole s × (32640 ≤ length store.old) × (definition.grant_of (view_of s) request message.now ≡ gives (record { frames = frames; echo = echo })) }
-    ensures { Fitted result.sender × (enqueued result (lent store.new []) ≡ definition.accepts (view_of s) (lent store.old []) request message.now (record { frames = frames; echo = echo })) }
+// The first place that is not taken.
+fn first_free(taken: &[bool]) -> Option<usize>
+    ensures { result ≡ position not taken.now }
 {
-    let identity = request.identity;
-    let token = s.next_token;
-    let k = echo as usize;
-    let mut held = s;
-    held.echo_until_ms[k] = request.deadline_ms + s.echo_guard_ms;
-    held.next_echo = (k + 1) % ECHO_VALUES;
-    let mut r = replace(held, identity);
-    let n = lowest_place(r);
-    store_message(store, n, message);
-    let x = newcomer(request, message, frames, n, echo, token);
-    r.next_token = number_after(r.next_token);
-    let last = pushed(r, x);
-    Enqueued {
-        sender: last,
-        answer: EnqueueAnswer::Transfer(TransferToken(token)),
+    taken.iter().position(|taken| !*taken)
+}
+
+impl Sender {
+    // Which places in the lent store the live transfers have.
+    fn places(&self) -> [bool; ECHO_VALUES]
+        ensures { (k : ℕ) → k < 128 → get_or result k false ≡ any (λ x. eqb x.parcel.n k) self.now.transfers }
+    {
+        let mut taken = [false; ECHO_VALUES];
+        for x in self.table.transfers.iter() {
+            taken[usize::from(x.parcel.n)] = true;
+        }
+        taken
+    }
+
+    // The lowest place that no live transfer has.
+    fn lowest_place(&self) -> usize
+        ensures { result ≡ definition.lowest_n self.now.transfers }
+    {
+        first_free(&self.places()).unwrap_or(ECHO_VALUES)
+    }
+
+    // The echo is held, a transfer to the same identity replaced, the message stored, and its transfer put at the back.
+    fn accept(
+        &mut self,
+        request: Request,
+        message: &[u8],
+        grant: Grant,
+        store: &mut [u8],
+    ) -> TransferToken
+        requires granted { definition.grant_of self.old request message.now ≡ gives grant }
+        requires room { 32640 ≤ length store.old }
+        requires tokens { self.old.next_token < stop }
+        ensures { (words : List ℕ) → wrote (self.new, Ok result) (lent store.new words) ≡ definition.accepts self.old (lent store.old words) request message.now grant }
+    {
+        let until = request.deadline_ms + self.table.limits.echo_guard_ms;
+        self.table.echoes.hold(grant.echo, until);
+        self.replace(request.identity);
+        let n = self.lowest_place();
+        store_message(store, n, message);
+        let token = self.table.next_token;
+        self.table
+            .transfers
+            .push(newcomer(request, message, grant, n, token));
+        self.table.next_token = number_after(token);
+        TransferToken(token)
+    }
+
+    pub(crate) fn enqueue_in_place(
+        &mut self,
+        request: Request,
+        message: &[u8],
+        block: u64,
+        now_ms: u64,
+        store: &mut [u8],
+        words: &[u64],
+    ) -> Result<TransferToken, Error>
+        ensures { wrote (self.new, result) (lent store.new words.now) ≡ definition.enqueue_of self.old (lent store.old words.now) request message.now block now_ms }
+    {
+        self.admit(block, now_ms, store, words)?;
+        let grant = self.table.grant(request, message)?;
+        Ok(self.accept(request, message, grant, store))
     }
 }

@@ -1,12 +1,12 @@
 // The sender: up to 128 transfers, in the order in which they are served, and the events of those that ended. A call with a
-// clock is lent the messages' octets (`store`) and the frames' submissions (`words`).
+// clock is lent the messages' octets (`store`) and the frames' submissions (`words`): which of the two it may write to stands in
+// its parameters, so they are not one struct, and `block` and `now_ms` stand beside them as in the Rust.
 // Ported from runtime/spach_arq.rs (chrismoos/136-bts 7c60b63bf4, Apache-2.0) and changed: see NOTICE.
 #![tactic(auto)]
 
 mod cancel;
 mod clock;
 mod enqueue;
-mod fresh;
 mod prepare;
 mod refresh;
 mod status;
@@ -15,199 +15,89 @@ mod table;
 mod walk;
 
 ghost use Rattle.std.specs.Prelude.{◌≡◌};
-ghost use Rattle.spach.specs.Refusal.{gives};
-ghost use Rattle.spach.specs.Answered.{answered};
-ghost use Rattle.transfer.specs.State.{blank_view, new_of};
+ghost use Rattle.spach.specs.Refusal.{by_number, left};
+ghost use Rattle.transfer.specs.State.{new_of, says};
 ghost use Rattle.transfer.specs.Advance.{advance_of};
 ghost use Rattle.transfer.specs.Enqueue.{enqueue_of};
 ghost use Rattle.transfer.specs.Prepare.{prepare_of, has_echo_of, interrupt_of, prepare_prioritized_of};
-ghost use Rattle.transfer.specs.Numbers.{completion_of, addressee_of};
+ghost use Rattle.transfer.specs.Numbers.{refusal_of, next_of};
 ghost use Rattle.transfer.specs.Submitted.{submitted_of, submitted_message_of, transmitted_of};
 ghost use Rattle.transfer.specs.Status.{status_of};
 ghost use Rattle.transfer.specs.Cancel.{cancel_of, cancel_transaction_of, cancel_all_of};
 ghost use Rattle.transfer.specs.Refresh.{refresh_waiting_of};
 ghost use Rattle.transfer.specs.Queries.{can_enqueue_of, identity_for_echo_of, radio_active_of, ready_of, contains_of, pop_event_of, pending_of};
-ghost use Rattle.sender.specs.Answers.{verdict_of, made, moved, enqueued, prepared, told, sought, submitted, confirmed, cancelled, popped};
-ghost use Rattle.sender.specs.Arrays.{view_of, lent, Whole};
+ghost use Rattle.sender.specs.View.{lent, wrote};
 
-use cancel::{all_cancelled, cancel_first, popped as without_first};
-use clock::{admit, short, tick};
-use enqueue::{accept, grant};
-use fresh::{fresh, unselected};
-use prepare::{choose, prioritize};
 use rach::MobileIdentity;
 use receiver::ArqStatus;
-use refresh::{queue_waiting, serve_oldest};
-use spach::SpachError;
-use status::shows;
-use submit::{confirm, submit};
-use table::find;
+use std::marker::Model;
+pub use table::Table;
 use transfer::constants::ECHO_VALUES;
-use transfer::echo::free_echo;
 use transfer::effects::went_out;
 use transfer::queue::full;
-use transfer::{
-    Addressee, CompletionAnswer, Confirmation, Error, Event, FrameToken, FreeEcho, Key, NextEvent,
-    PreparedFrame, Request, Transfer, TransferToken,
-};
-use walk::walk;
+use transfer::{Error, Event, FrameToken, Limits, PreparedFrame, Request, TransferToken};
 
-// A prepared frame, if there is one.
-#[derive(Clone, Copy)]
-pub struct Selection {
-    pub held: bool,
-    pub frame: PreparedFrame,
-}
-
-#[derive(Clone, Copy)]
-pub struct EventSlot {
-    pub event: Event,
-}
-
-// The live transfers are the first `pending` slots, the waiting events the first `waiting` ones.
-#[derive(Clone, Copy)]
+// A sender that the constructor and the calls made. Contracts see it as a `View`.
+#[derive(Clone, Drop)]
 pub struct Sender {
-    pub transfers: [Transfer; ECHO_VALUES],
-    pub pending: usize,
-    pub events: [EventSlot; 2 * ECHO_VALUES],
-    pub waiting: usize,
-    pub echo_until_ms: [u64; ECHO_VALUES],
-    pub next_echo: usize,
-    pub selected: Selection,
-    pub capacity: usize,
-    pub startup_until_block: u64,
-    pub echo_guard_ms: u64,
-    pub last_block: u64,
-    pub last_ms: u64,
-    pub next_token: u64,
+    table: Table,
 }
 
-// ---- answers: the sender afterwards, and what the call says
+impl Model for Sender {
+    ghost use Rattle.transfer.specs.State.{View};
+    ghost use Rattle.transfer.specs.Invariant.{Sound};
 
-#[derive(Clone, Copy)]
-pub enum Verdict {
-    Accepted,
-    Refused(Error),
-}
+    ghost Value = { View };
 
-// Of the constructor, `advance`, `submitted` and `refresh_waiting`.
-#[derive(Clone, Copy)]
-pub struct Moved {
-    pub sender: Sender,
-    pub verdict: Verdict,
-}
+    ghost use Rattle.sender.specs.View.{view_of};
 
-#[derive(Clone, Copy)]
-pub enum EnqueueAnswer {
-    Transfer(TransferToken),
-    Refused(Error),
-}
+    ghost view = { λ s. view_of s.table };
 
-// What a request is given, or why it is refused.
-#[derive(Clone, Copy)]
-pub enum GrantAnswer {
-    Granted { frames: u8, echo: u8 },
-    Refused(Error),
-}
-
-#[derive(Clone, Copy)]
-pub struct Enqueued {
-    pub sender: Sender,
-    pub answer: EnqueueAnswer,
-}
-
-// Of `prepare` and `prepare_prioritized`: the frame, if there is one.
-#[derive(Clone, Copy)]
-pub struct Prepared {
-    pub sender: Sender,
-    pub verdict: Verdict,
-    pub selection: Selection,
-}
-
-#[derive(Clone, Copy)]
-pub enum FoundAnswer {
-    Found(bool),
-    Refused(Error),
-}
-
-// Of `interrupt` and `status`.
-#[derive(Clone, Copy)]
-pub struct Sought {
-    pub sender: Sender,
-    pub answer: FoundAnswer,
-}
-
-#[derive(Clone, Copy)]
-pub enum ConfirmationAnswer {
-    Confirmation(Confirmation),
-    Refused(Error),
-}
-
-#[derive(Clone, Copy)]
-pub struct Confirmed {
-    pub sender: Sender,
-    pub answer: ConfirmationAnswer,
-}
-
-// Of `cancel` and `cancel_transaction`.
-#[derive(Clone, Copy)]
-pub struct Cancelled {
-    pub sender: Sender,
-    pub found: bool,
-}
-
-#[derive(Clone, Copy)]
-pub struct Popped {
-    pub sender: Sender,
-    pub next: NextEvent,
+    ghost invariant = { λ s. Sound (view_of s.table) };
 }
 
 impl Sender {
+    ghost use Rattle.sender.specs.View.{view_of};
+
     // In the Rust `try_new` and `after_restart`: nobody starts without saying from which block on echoes may be used.
+    #[tactic(auto, unfolding(transfer::specs::State::new_of))]
     pub fn try_new(
         capacity: usize,
         echo_guard_ms: u64,
         startup_until_block: u64,
         first: u64,
-    ) -> Moved
-        ensures result_value { made result ≡ answered blank_view (new_of capacity echo_guard_ms startup_until_block first) }
-        ensures whole { verdict_of result.verdict ≡ gives tt → Whole result.sender }
+    ) -> Result<Sender, Error>
+        ensures { by_number refusal_of result ≡ new_of capacity echo_guard_ms startup_until_block first }
     {
-        if capacity == 0 {
-            return Moved {
-                sender: fresh(0, 0, 0, 0),
-                verdict: Verdict::Refused(Error::Limits),
-            };
+        if capacity == 0 || ECHO_VALUES < capacity {
+            return Err(Error::Limits);
         }
-        if ECHO_VALUES < capacity {
-            return Moved {
-                sender: fresh(0, 0, 0, 0),
-                verdict: Verdict::Refused(Error::Limits),
-            };
-        }
-        Moved {
-            sender: fresh(capacity, echo_guard_ms, startup_until_block, first),
-            verdict: Verdict::Accepted,
-        }
+        let limits = Limits {
+            capacity,
+            startup_until_block,
+            echo_guard_ms,
+        };
+        Ok(Sender {
+            table: Table::fresh(limits, first),
+        })
     }
 
-    pub fn can_enqueue(self, block: u64, now_ms: u64) -> bool
-        requires { Whole self }
-        ensures { result ≡ can_enqueue_of (view_of self) block now_ms }
+    // What it is made of, to be shown.
+    pub fn table(&self) -> &Table
+        ensures { view_of result.now ≡ self.now }
     {
-        if block < self.startup_until_block {
-            return false;
-        }
-        if self.capacity <= self.pending {
-            return false;
-        }
-        if self.capacity <= self.waiting {
-            return false;
-        }
-        match free_echo(&self.echo_until_ms, self.next_echo, now_ms) {
-            FreeEcho::Nothing => false,
-            FreeEcho::Echo(_) => true,
-        }
+        &self.table
+    }
+
+    #[tactic(auto, unfolding(transfer::specs::Queries::can_enqueue_of))]
+    pub fn can_enqueue(&self, block: u64, now_ms: u64) -> bool
+        ensures { result ≡ can_enqueue_of self.now block now_ms }
+    {
+        let limits = self.table.limits;
+        limits.startup_until_block <= block
+            && self.table.transfers.len() < limits.capacity
+            && self.table.events.len() < limits.capacity
+            && self.table.echoes.any_free(now_ms)
     }
 
     pub fn enqueue(
@@ -218,100 +108,43 @@ impl Sender {
         now_ms: u64,
         store: &mut [u8],
         words: &[u64],
-    ) -> Enqueued
-        requires { Whole self }
-        ensures words_after { enqueued result (lent store.new words.now) ≡ enqueue_of (view_of self) (lent store.old words.now) request message.now block now_ms }
-        ensures whole { Whole result.sender }
+    ) -> (Self, Result<TransferToken, Error>)
+        ensures { wrote result (lent store.new words.now) ≡ enqueue_of self (lent store.old words.now) request message.now block now_ms }
     {
-        let lacking = short(store.len(), words.len());
-        let verdict = admit(
-            lacking,
-            self.next_token,
-            self.last_block,
-            self.last_ms,
-            block,
-            now_ms,
-        );
-        if let Verdict::Refused(error) = verdict {
-            return Enqueued {
-                sender: self,
-                answer: EnqueueAnswer::Refused(error),
-            };
-        }
-        self.last_block = block;
-        self.last_ms = now_ms;
-        match grant(self, request, message) {
-            GrantAnswer::Refused(error) => Enqueued {
-                sender: self,
-                answer: EnqueueAnswer::Refused(error),
-            },
-            GrantAnswer::Granted { frames, echo } => accept(
-                self, request, message, frames, echo, store,
-            ),
-        }
+        let answer = self.enqueue_in_place(request, message, block, now_ms, store, words);
+        (self, answer)
     }
 
-    pub fn advance(mut self, block: u64, now_ms: u64, store: &[u8], words: &[u64]) -> Moved
-        requires { Whole self }
-        ensures result_value { moved result ≡ advance_of (view_of self) (lent store.now words.now) block now_ms }
-        ensures whole { Whole result.sender }
+    pub fn advance(
+        mut self,
+        block: u64,
+        now_ms: u64,
+        store: &[u8],
+        words: &[u64],
+    ) -> (Self, Result<(), Error>)
+        ensures { left refusal_of result ≡ advance_of self (lent store.now words.now) block now_ms }
     {
-        let lacking = short(store.len(), words.len());
-        let verdict = admit(
-            lacking,
-            self.next_token,
-            self.last_block,
-            self.last_ms,
-            block,
-            now_ms,
-        );
-        if let Verdict::Refused(error) = verdict {
-            return Moved {
-                sender: self,
-                verdict: Verdict::Refused(error),
-            };
-        }
-        self.last_block = block;
-        self.last_ms = now_ms;
-        let s = walk(self, 128);
-        Moved {
-            sender: s,
-            verdict: Verdict::Accepted,
-        }
+        let answer = self.advance_in_place(block, now_ms, store, words);
+        (self, answer)
     }
 
-    pub fn prepare(mut self, block: u64, now_ms: u64, store: &[u8], words: &[u64]) -> Prepared
-        requires { Whole self }
-        ensures result_value { prepared result ≡ told (prepare_of (view_of self) (lent store.now words.now) block now_ms) }
-        ensures whole { Whole result.sender }
+    pub fn prepare(
+        mut self,
+        block: u64,
+        now_ms: u64,
+        store: &[u8],
+        words: &[u64],
+    ) -> (Self, Result<Option<PreparedFrame>, Error>)
+        ensures { left refusal_of result ≡ prepare_of self (lent store.now words.now) block now_ms }
     {
-        let lacking = short(store.len(), words.len());
-        let verdict = admit(
-            lacking,
-            self.next_token,
-            self.last_block,
-            self.last_ms,
-            block,
-            now_ms,
-        );
-        if let Verdict::Refused(error) = verdict {
-            let nothing = unselected();
-            return Prepared {
-                sender: self,
-                verdict: Verdict::Refused(error),
-                selection: nothing,
-            };
-        }
-        self.last_block = block;
-        self.last_ms = now_ms;
-        choose(walk(self, 128), store)
+        let answer = self.prepare_in_place(block, now_ms, store, words);
+        (self, answer)
     }
 
-    pub fn has_echo(self, echo: u8) -> bool
-        requires { Whole self }
-        ensures { result ≡ has_echo_of (view_of self) echo }
+    pub fn has_echo(&self, echo: u8) -> bool
+        ensures { result ≡ has_echo_of self.now echo }
     {
-        find(self, Key::Echo(echo)).held
+        self.table.transfers.iter().any(|x| x.echo == echo)
     }
 
     // Whether a transfer has this echo; its restart is then asked for.
@@ -322,40 +155,11 @@ impl Sender {
         now_ms: u64,
         store: &[u8],
         words: &[u64],
-    ) -> Sought
-        requires { Whole self }
-        ensures result_value { sought result ≡ interrupt_of (view_of self) (lent store.now words.now) echo block now_ms }
-        ensures whole { Whole result.sender }
+    ) -> (Self, Result<bool, Error>)
+        ensures { left refusal_of result ≡ interrupt_of self (lent store.now words.now) echo block now_ms }
     {
-        let lacking = short(store.len(), words.len());
-        let verdict = admit(
-            lacking,
-            self.next_token,
-            self.last_block,
-            self.last_ms,
-            block,
-            now_ms,
-        );
-        if let Verdict::Refused(error) = verdict {
-            return Sought {
-                sender: self,
-                answer: FoundAnswer::Refused(error),
-            };
-        }
-        self.last_block = block;
-        self.last_ms = now_ms;
-        let found = find(self, Key::Echo(echo));
-        if !found.held {
-            return Sought {
-                sender: self,
-                answer: FoundAnswer::Found(false),
-            };
-        }
-        let s = walk(self, found.place);
-        Sought {
-            sender: s,
-            answer: FoundAnswer::Found(true),
-        }
+        let answer = self.interrupt_in_place(echo, block, now_ms, store, words);
+        (self, answer)
     }
 
     pub fn prepare_prioritized(
@@ -365,34 +169,13 @@ impl Sender {
         now_ms: u64,
         store: &[u8],
         words: &[u64],
-    ) -> Prepared
-        requires { Whole self }
-        ensures result_value { prepared result ≡ told (prepare_prioritized_of (view_of self) (lent store.now words.now) echo block now_ms) }
-        ensures whole { Whole result.sender }
+    ) -> (Self, Result<Option<PreparedFrame>, Error>)
+        ensures { left refusal_of result ≡ prepare_prioritized_of self (lent store.now words.now) echo block now_ms }
     {
-        let lacking = short(store.len(), words.len());
-        let verdict = admit(
-            lacking,
-            self.next_token,
-            self.last_block,
-            self.last_ms,
-            block,
-            now_ms,
-        );
-        if let Verdict::Refused(error) = verdict {
-            let nothing = unselected();
-            return Prepared {
-                sender: self,
-                verdict: Verdict::Refused(error),
-                selection: nothing,
-            };
-        }
-        self.last_block = block;
-        self.last_ms = now_ms;
-        prioritize(walk(self, 128), echo, store)
+        let answer = self.prioritize_in_place(echo, block, now_ms, store, words);
+        (self, answer)
     }
 
-    // It takes no token, so it does not ask for 18.
     pub fn submitted(
         mut self,
         token: FrameToken,
@@ -400,45 +183,25 @@ impl Sender {
         now_ms: u64,
         store: &[u8],
         words: &mut [u64],
-    ) -> Moved
-        requires { Whole self }
-        ensures words_after { submitted result (lent store.now words.new) ≡ submitted_of (view_of self) (lent store.now words.old) token block now_ms }
-        ensures whole { Whole result.sender }
+    ) -> (Self, Result<(), Error>)
+        ensures { wrote result (lent store.now words.new) ≡ submitted_of self (lent store.now words.old) token block now_ms }
     {
-        if short(store.len(), words.len()) {
-            return Moved {
-                sender: self,
-                verdict: Verdict::Refused(Error::Wire(SpachError::Room)),
-            };
-        }
-        if let Verdict::Refused(error) = tick(self.last_block, self.last_ms, block, now_ms) {
-            return Moved {
-                sender: self,
-                verdict: Verdict::Refused(error),
-            };
-        }
-        self.last_block = block;
-        self.last_ms = now_ms;
-        submit(self, token, words)
+        let answer = self.submit_in_place(token, block, now_ms, store, words);
+        (self, answer)
     }
 
     // By the token's generation alone.
-    pub fn submitted_message(self, token: FrameToken) -> CompletionAnswer
-        requires { Whole self }
-        ensures { completion_of result ≡ submitted_message_of (view_of self) token }
+    #[tactic(auto, unfolding(transfer::specs::Submitted::submitted_message_of))]
+    pub fn submitted_message(&self, token: FrameToken) -> Option<u64>
+        ensures { result ≡ submitted_message_of self.now token }
     {
-        let generation = token.generation;
-        let found = find(self, Key::Generation(generation));
-        let x = found.transfer;
-        let p = x.parcel;
-        let sets = x.sets;
-        if !found.held {
-            return CompletionAnswer::Nothing;
+        let place = self.table.place_of_generation(token.generation)?;
+        let x = self.table.transfers[place];
+        if full(x.parcel.frames.get(), went_out(x.sets)) {
+            Some(x.parcel.completion)
+        } else {
+            None
         }
-        if !full(p.frames, went_out(sets)) {
-            return CompletionAnswer::Nothing;
-        }
-        CompletionAnswer::Completion(p.completion)
     }
 
     // Whether the frame was in flight, and whether all frames are transmitted with it (01: `completed`).
@@ -449,29 +212,11 @@ impl Sender {
         now_ms: u64,
         store: &[u8],
         words: &[u64],
-    ) -> Confirmed
-        requires { Whole self }
-        ensures result_value { confirmed result ≡ transmitted_of (view_of self) (lent store.now words.now) token block now_ms }
-        ensures whole { Whole result.sender }
+    ) -> (Self, Result<Option<bool>, Error>)
+        ensures { left refusal_of result ≡ transmitted_of self (lent store.now words.now) token block now_ms }
     {
-        let lacking = short(store.len(), words.len());
-        let verdict = admit(
-            lacking,
-            self.next_token,
-            self.last_block,
-            self.last_ms,
-            block,
-            now_ms,
-        );
-        if let Verdict::Refused(error) = verdict {
-            return Confirmed {
-                sender: self,
-                answer: ConfirmationAnswer::Refused(error),
-            };
-        }
-        self.last_block = block;
-        self.last_ms = now_ms;
-        confirm(self, token, words)
+        let answer = self.confirm_in_place(token, block, now_ms, store, words);
+        (self, answer)
     }
 
     pub fn status(
@@ -481,144 +226,98 @@ impl Sender {
         now_ms: u64,
         store: &[u8],
         words: &[u64],
-    ) -> Sought
-        requires { Whole self }
-        ensures result_value { sought result ≡ status_of (view_of self) (lent store.now words.now) status block now_ms }
-        ensures whole { Whole result.sender }
+    ) -> (Self, Result<bool, Error>)
+        ensures { left refusal_of result ≡ status_of self (lent store.now words.now) status block now_ms }
     {
-        let lacking = short(store.len(), words.len());
-        let verdict = admit(
-            lacking,
-            self.next_token,
-            self.last_block,
-            self.last_ms,
-            block,
-            now_ms,
-        );
-        if let Verdict::Refused(error) = verdict {
-            return Sought {
-                sender: self,
-                answer: FoundAnswer::Refused(error),
-            };
-        }
-        self.last_block = block;
-        self.last_ms = now_ms;
-        shows(walk(self, 128), status)
+        let answer = self.status_in_place(status, block, now_ms, store, words);
+        (self, answer)
     }
 
-    pub fn cancel(self, identity: MobileIdentity) -> Cancelled
-        requires { Whole self }
-        ensures result_value { cancelled result ≡ cancel_of (view_of self) identity }
-        ensures whole { Whole result.sender }
+    // Whether there was a transfer to this identity.
+    #[tactic(auto, unfolding(transfer::specs::Cancel::cancel_of))]
+    pub fn cancel(mut self, identity: MobileIdentity) -> (Self, bool)
+        ensures { says result.1 result.0 ≡ cancel_of self identity }
     {
-        cancel_first(self, Key::Identity(identity))
+        let Some(place) = self.table.place_of_identity(identity) else {
+            return (self, false);
+        };
+        self.cancel_at(place);
+        (self, true)
     }
 
-    pub fn cancel_transaction(self, token: TransferToken) -> Cancelled
-        requires { Whole self }
-        ensures result_value { cancelled result ≡ cancel_transaction_of (view_of self) token }
-        ensures whole { Whole result.sender }
+    // Whether there was a transfer of this token.
+    #[tactic(auto, unfolding(transfer::specs::Cancel::cancel_transaction_of))]
+    pub fn cancel_transaction(mut self, token: TransferToken) -> (Self, bool)
+        ensures { says result.1 result.0 ≡ cancel_transaction_of self token }
     {
-        cancel_first(self, Key::Owner(token))
+        let Some(place) = self.table.place_of_owner(token) else {
+            return (self, false);
+        };
+        self.cancel_at(place);
+        (self, true)
     }
 
-    pub fn cancel_all(self) -> Sender
-        requires { Whole self }
-        ensures result_value { view_of result ≡ cancel_all_of (view_of self) }
-        ensures whole { Whole result }
+    pub fn cancel_all(mut self) -> Self
+        ensures { result ≡ cancel_all_of self }
     {
-        all_cancelled(self)
+        self.cancel_each();
+        self
     }
 
-    pub fn refresh_waiting(mut self, block: u64, now_ms: u64, store: &[u8], words: &[u64]) -> Moved
-        requires { Whole self }
-        ensures result_value { moved result ≡ refresh_waiting_of (view_of self) (lent store.now words.now) block now_ms }
-        ensures whole { Whole result.sender }
+    pub fn refresh_waiting(
+        mut self,
+        block: u64,
+        now_ms: u64,
+        store: &[u8],
+        words: &[u64],
+    ) -> (Self, Result<(), Error>)
+        ensures { left refusal_of result ≡ refresh_waiting_of self (lent store.now words.now) block now_ms }
     {
-        let lacking = short(store.len(), words.len());
-        let verdict = admit(
-            lacking,
-            self.next_token,
-            self.last_block,
-            self.last_ms,
-            block,
-            now_ms,
-        );
-        if let Verdict::Refused(error) = verdict {
-            return Moved {
-                sender: self,
-                verdict: Verdict::Refused(error),
-            };
-        }
-        self.last_block = block;
-        self.last_ms = now_ms;
-        let s = serve_oldest(queue_waiting(walk(self, 128)));
-        Moved {
-            sender: s,
-            verdict: Verdict::Accepted,
-        }
+        let answer = self.refresh_in_place(block, now_ms, store, words);
+        (self, answer)
     }
 
     // Of the first transfer of this echo.
-    pub fn identity_for_echo(self, echo: u8) -> Addressee
-        requires { Whole self }
-        ensures { addressee_of result ≡ identity_for_echo_of (view_of self) echo }
+    #[tactic(auto, unfolding(transfer::specs::Queries::identity_for_echo_of))]
+    pub fn identity_for_echo(&self, echo: u8) -> Option<MobileIdentity>
+        ensures { result ≡ identity_for_echo_of self.now echo }
     {
-        let found = find(self, Key::Echo(echo));
-        let x = found.transfer;
-        let p = x.parcel;
-        let identity = p.identity;
-        if !found.held {
-            return Addressee::Nothing;
-        }
-        Addressee::Identity(identity)
+        let place = self.table.place_of_echo(echo)?;
+        Some(self.table.transfers[place].parcel.identity)
     }
 
-    pub fn radio_active(self) -> bool
-        requires { Whole self }
-        ensures { result ≡ radio_active_of (view_of self) }
+    pub fn radio_active(&self) -> bool
+        ensures { result ≡ radio_active_of self.now }
     {
-        find(self, Key::Progress).held
+        self.table
+            .transfers
+            .iter()
+            .any(|x| x.blocks.last_progress.is_some())
     }
 
-    pub fn ready(self) -> bool
-        requires { Whole self }
-        ensures { result ≡ ready_of (view_of self) }
+    pub fn ready(&self) -> bool
+        ensures { result ≡ ready_of self.now }
     {
-        find(self, Key::Ready).held
+        self.table.transfers.iter().any(|x| x.sets.queue != 0)
     }
 
-    pub fn contains(self, identity: MobileIdentity) -> bool
-        requires { Whole self }
-        ensures { result ≡ contains_of (view_of self) identity }
+    pub fn contains(&self, identity: MobileIdentity) -> bool
+        ensures { result ≡ contains_of self.now identity }
     {
-        find(self, Key::Identity(identity)).held
+        self.table.contains(identity)
     }
 
-    pub fn pop_event(self) -> Popped
-        requires { Whole self }
-        ensures result_value { popped result ≡ pop_event_of (view_of self) }
-        ensures whole { Whole result.sender }
+    #[tactic(auto, unfolding(transfer::specs::Queries::pop_event_of))]
+    pub fn pop_event(mut self) -> (Self, Option<Event>)
+        ensures { says (next_of result.1) result.0 ≡ pop_event_of self }
     {
-        if self.waiting == 0 {
-            return Popped {
-                sender: self,
-                next: NextEvent::Nothing,
-            };
-        }
-        let slot = self.events[0];
-        let event = slot.event;
-        let s = without_first(self);
-        Popped {
-            sender: s,
-            next: NextEvent::Event(event),
-        }
+        let event = self.table.events.pop_at(0);
+        (self, event)
     }
 
-    pub fn pending(self) -> usize
-        requires { Whole self }
-        ensures { result ≡ pending_of (view_of self) }
+    pub fn pending(&self) -> usize
+        ensures { result ≡ pending_of self.now }
     {
-        self.pending
+        self.table.transfers.len()
     }
 }

@@ -1,132 +1,124 @@
 // Which frame goes out next, and that frame made.
 // Ported from runtime/spach_arq.rs (chrismoos/136-bts 7c60b63bf4, Apache-2.0) and changed: see NOTICE.
-ghost use Rattle.std.specs.Prelude.{◌≡◌, ◌+◌, ◌*◌, ◌≤◌, length};
+ghost use Rattle.std.specs.Prelude.{◌≡◌, ◌+◌, ◌*◌, ◌≤◌, ◌<◌, length};
+ghost use Rattle.token.specs.Token.{stop};
+ghost use Rattle.spach.specs.Refusal.{left};
+ghost use Rattle.transfer.specs.Numbers.{refusal_of};
 ghost use Rattle.transfer.specs.Prepare as definition;
-ghost use Rattle.sender.specs.Answers.{prepared, told};
-ghost use Rattle.sender.specs.Arrays.{selection_of, view_of, Fitted, Whole};
+ghost use Rattle.transfer.specs.State.{with_selected};
+ghost use Rattle.sender.specs.View.{lent};
 
-use super::fresh::unselected;
-use super::table::{find, moved_to_front};
-use super::{Prepared, Selection, Sender, Verdict};
-use spach::Verdict as Answer;
+use super::Sender;
+use super::table::Table;
 use token::number_after;
 use transfer::effects::repeated;
 use transfer::frame::packed_of;
 use transfer::queue::{front, one_left};
-use transfer::{Error, FrameToken, Key, PreparedFrame, Submission, Transfer};
+use transfer::{Error, FrameToken, PreparedFrame, Submission, Transfer};
 
-// A selected frame of another echo is dropped.
-pub fn only_echo(selection: Selection, echo: u8) -> Selection
-    ensures { selection_of result ≡ definition.only_echo echo (selection_of selection) }
-{
-    let mut r = selection;
-    let f = selection.frame;
-    if f.partial_echo != echo {
-        r.held = false;
-    }
-    r
-}
+impl Table {
+    ghost use Rattle.sender.specs.View.{view_of};
 
-// The front of the transfer's queue is made and selected.
-fn select(s: Sender, x: Transfer, store: &[u8]) -> Prepared
-    requires { Fitted s × (255 * x.parcel.n + x.parcel.octets ≤ length store.now) }
-    ensures { Fitted result.sender × (prepared result ≡ told (definition.selects (view_of s) x (definition.front_of x store.now))) }
-{
-    let p = x.parcel;
-    let identity = p.identity;
-    let generation = x.generation;
-    let sets = x.sets;
-    let k = front(sets.queue);
-    let encoded = packed_of(x, store, k, one_left(sets.queue));
-    let verdict = encoded.verdict;
-    let packed = encoded.frame;
-    if let Answer::Refused(error) = verdict {
-        let nothing = unselected();
-        return Prepared {
-            sender: s,
-            verdict: Verdict::Refused(Error::Wire(error)),
-            selection: nothing,
+    // The front of the transfer's queue is made and selected.
+    fn select(&mut self, x: &Transfer, store: &[u8]) -> Result<Option<PreparedFrame>, Error>
+        requires { 255 * x.now.parcel.n + x.now.parcel.octets ≤ length store.now }
+        ensures { left refusal_of (view_of self.new, result) ≡ definition.selects (view_of self.old) x.now (definition.front_of x.now store.now) }
+    {
+        let frame = front(x.sets.queue);
+        let packed = packed_of(x, store, frame, one_left(x.sets.queue))?;
+        let token = FrameToken {
+            generation: x.generation,
+            submission: Submission(self.next_token),
+            frame,
         };
+        let octets = packed.octets;
+        self.selected = Some(PreparedFrame {
+            identity: x.parcel.identity,
+            octets,
+            token,
+            partial_echo: x.echo,
+        });
+        self.next_token = number_after(self.next_token);
+        Ok(self.selected)
     }
-    let octets = packed.octets;
-    let token = FrameToken {
-        generation: generation,
-        submission: Submission(s.next_token),
-        frame: k,
-    };
-    let frame = PreparedFrame {
-        identity: identity,
-        octets: octets,
-        token: token,
-        partial_echo: x.echo,
-    };
-    let selection = Selection {
-        held: true,
-        frame: frame,
-    };
-    let mut r = s;
-    r.selected = selection;
-    r.next_token = number_after(s.next_token);
-    Prepared {
-        sender: r,
-        verdict: Verdict::Accepted,
-        selection: selection,
+
+    // A selected frame of another echo is dropped.
+    fn select_only(&mut self, echo: u8)
+        ensures { view_of self.new ≡ with_selected (view_of self.old) (definition.only_echo echo self.old.selected) }
+    {
+        self.selected = self.selected.filter(|f| f.partial_echo == echo);
     }
 }
 
-// The selected frame as it is; else the front of the first transfer that has one queued.
-pub fn choose(s: Sender, store: &[u8]) -> Prepared
-    requires { Whole s × (32640 ≤ length store.now) }
-    ensures { Fitted result.sender × (prepared result ≡ told (definition.choose (view_of s) store.now)) }
-{
-    let old = s.selected;
-    if old.held {
-        return Prepared {
-            sender: s,
-            verdict: Verdict::Accepted,
-            selection: old,
+impl Sender {
+    // The selected frame as it is; else the front of the first transfer that has one queued.
+    #[tactic(auto, unfolding(transfer::specs::Prepare::choose))]
+    pub(crate) fn choose(&mut self, store: &[u8]) -> Result<Option<PreparedFrame>, Error>
+        requires room { 32640 ≤ length store.now }
+        requires tokens { self.old.next_token < stop }
+        ensures { left refusal_of (self.new, result) ≡ definition.choose self.old store.now }
+    {
+        if let Some(frame) = self.table.selected {
+            return Ok(Some(frame));
+        }
+        let Some(place) = self.table.place_of_ready() else {
+            return Ok(None);
         };
+        let x = self.table.transfers[place];
+        self.table.select(&x, store)
     }
-    let found = find(s, Key::Ready);
-    let x = found.transfer;
-    if found.held {
-        return select(s, x, store);
-    }
-    let nothing = unselected();
-    Prepared {
-        sender: s,
-        verdict: Verdict::Accepted,
-        selection: nothing,
-    }
-}
 
-// The first transfer of the echo goes to the front, its last frame queued again if it waits.
-pub fn prioritize(s: Sender, echo: u8, store: &[u8]) -> Prepared
-    requires { Whole s × (32640 ≤ length store.now) }
-    ensures { Fitted result.sender × (prepared result ≡ told (definition.prioritize_at (view_of s) store.now echo)) }
-{
-    let found = find(s, Key::Echo(echo));
-    let old = s.selected;
-    if !found.held {
-        let nothing = unselected();
-        return Prepared {
-            sender: s,
-            verdict: Verdict::Accepted,
-            selection: nothing,
+    // The first transfer of the echo goes to the front, its last frame queued again if it waits.
+    #[tactic(auto, unfolding(transfer::specs::Prepare::prioritize_at))]
+    pub(crate) fn prioritize(
+        &mut self,
+        echo: u8,
+        store: &[u8],
+    ) -> Result<Option<PreparedFrame>, Error>
+        requires room { 32640 ≤ length store.now }
+        requires tokens { self.old.next_token < stop }
+        ensures { left refusal_of (self.new, result) ≡ definition.prioritize_at self.old store.now echo }
+    {
+        let Some(place) = self.table.place_of_echo(echo) else {
+            return Ok(None);
         };
+        let x = self.table.transfers[place];
+        let x = repeated(x);
+        let queue = x.sets.queue;
+        self.table.move_to_front(place, x);
+        self.table.select_only(echo);
+        if queue == 0 {
+            return Ok(None);
+        }
+        self.choose(store)
     }
-    let x = repeated(found.transfer);
-    let sets = x.sets;
-    let mut r = moved_to_front(s, found.place, x);
-    let selected = only_echo(old, echo);
-    r.selected = selected;
-    if sets.queue == 0 {
-        let nothing = unselected();
-        return Prepared {
-            sender: r,
-            verdict: Verdict::Accepted,
-            selection: nothing,
-        };
+
+    pub(crate) fn prepare_in_place(
+        &mut self,
+        block: u64,
+        now_ms: u64,
+        store: &[u8],
+        words: &[u64],
+    ) -> Result<Option<PreparedFrame>, Error>
+        ensures { left refusal_of (self.new, result) ≡ definition.prepare_of self.old (lent store.now words.now) block now_ms }
+    {
+        self.admit(block, now_ms, store, words)?;
+        self.walk(None);
+        self.choose(store)
     }
-    choose(r, store)
+
+    pub(crate) fn prioritize_in_place(
+        &mut self,
+        echo: u8,
+        block: u64,
+        now_ms: u64,
+        store: &[u8],
+        words: &[u64],
+    ) -> Result<Option<PreparedFrame>, Error>
+        ensures { left refusal_of (self.new, result) ≡ definition.prepare_prioritized_of self.old (lent store.now words.now) echo block now_ms }
+    {
+        self.admit(block, now_ms, store, words)?;
+        self.walk(None);
+        self.prioritize(echo, store)
+    }
 }

@@ -1,65 +1,79 @@
 // Waiting transfers queued again, and the oldest of those that are ready served first.
 // Ported from runtime/spach_arq.rs (chrismoos/136-bts 7c60b63bf4, Apache-2.0) and changed: see NOTICE.
-ghost use Rattle.std.specs.Prelude.{◌≡◌};
+ghost use Rattle.std.specs.Prelude.{◌≡◌, ◌≤◌, ◌<◌, IfSome, length, unwrap_or};
+ghost use Rattle.spach.specs.Refusal.{left};
+ghost use Rattle.transfer.specs.Numbers.{refusal_of};
 ghost use Rattle.transfer.specs.Refresh as definition;
-ghost use Rattle.sender.specs.Arrays.{view_of, Fitted, Whole};
+ghost use Rattle.sender.specs.View.{lent};
 
 use super::Sender;
-use super::table::moved_to_front;
+use super::table::Table;
+use transfer::Error;
 use transfer::constants::REFRESH_BLOCKS;
 use transfer::effects::{age_of, refreshed};
 
-// Each transfer that waits has its last frame queued again.
-pub fn queue_waiting(s: Sender) -> Sender
-    requires { Whole s }
-    ensures { Fitted result × (view_of result ≡ definition.queue_waiting (view_of s)) }
-{
-    let n = s.pending;
-    let mut r = s;
-    let mut i = 0;
-    while i < n {
-        let x = r.transfers[i];
-        let y = refreshed(r.last_block, x);
-        r.transfers[i] = y;
-        i += 1;
-    }
-    r
-}
+impl Table {
+    ghost use Rattle.sender.specs.View.{view_of};
 
-// The place of the oldest that is ready, of equal ones the last; the number of transfers if none has waited for 16 blocks.
-pub fn oldest(s: Sender) -> usize
-    requires { Fitted s }
-    ensures { result ≡ definition.oldest s.last_block (view_of s).transfers }
-{
-    let n = s.pending;
-    let mut best = n;
-    let mut top = REFRESH_BLOCKS;
-    let mut i = 0;
-    while i < n {
-        let x = s.transfers[i];
-        let age = age_of(s.last_block, x);
-        if top <= age {
-            best = i;
-            top = age;
+    // The place of the oldest that is ready, of equal ones the last, if one has waited for 16 blocks.
+    #[tactic(auto, unfolding(transfer::specs::Refresh::oldest))]
+    fn oldest(&self) -> Option<usize>
+        ensures place { unwrap_or result (length self.now.transfers.items) ≡ definition.oldest self.now.clock.last_block self.now.transfers.items }
+        ensures within { IfSome result (λ i. i < length self.now.transfers.items) }
+    {
+        let mut oldest = None;
+        let mut top = REFRESH_BLOCKS;
+        for (i, x) in self.transfers.iter().enumerate() {
+            let age = age_of(self.clock.last_block, x);
+            if top <= age {
+                oldest = Some(i);
+                top = age;
+            }
         }
-        i += 1;
+        oldest
     }
-    best
+
+    // Each transfer that waits has its last frame queued again.
+    #[tactic(auto, unfolding(transfer::specs::Refresh::queue_waiting))]
+    fn queue_waiting(&mut self)
+        ensures { view_of self.new ≡ definition.queue_waiting (view_of self.old) }
+    {
+        let block = self.clock.last_block;
+        for x in self.transfers.iter_mut() {
+            *x = refreshed(block, *x);
+        }
+    }
+
+    // If no frame is selected, the oldest that is ready goes to the front.
+    #[tactic(auto, unfolding(transfer::specs::Refresh::serve_oldest))]
+    fn serve_oldest(&mut self)
+        requires { length self.old.transfers.items ≤ 128 }
+        ensures { view_of self.new ≡ definition.serve_oldest (view_of self.old) }
+    {
+        if self.selected.is_some() {
+            return;
+        }
+        if let Some(place) = self.oldest() {
+            let x = self.transfers[place];
+            self.move_to_front(place, x);
+        }
+    }
 }
 
-// If no frame is selected, the oldest that is ready goes to the front.
-pub fn serve_oldest(s: Sender) -> Sender
-    requires { Fitted s }
-    ensures { Fitted result × (view_of result ≡ definition.serve_oldest (view_of s)) }
-{
-    let selected = s.selected;
-    if selected.held {
-        return s;
+impl Sender {
+    pub(crate) fn refresh_in_place(
+        &mut self,
+        block: u64,
+        now_ms: u64,
+        store: &[u8],
+        words: &[u64],
+    ) -> Result<(), Error>
+        ensures { left refusal_of (self.new, result) ≡ definition.refresh_waiting_of self.old (lent store.now words.now) block now_ms }
+    {
+        self.admit(block, now_ms, store, words)?;
+        self.walk(None);
+        self.table.queue_waiting();
+        self.table.serve_oldest();
+        Ok(())
     }
-    let place = oldest(s);
-    if s.pending <= place {
-        return s;
-    }
-    let x = s.transfers[place];
-    moved_to_front(s, place, x)
 }

@@ -1,42 +1,51 @@
 // What a status shows of a transfer.
 // Ported from runtime/spach_arq.rs (chrismoos/136-bts 7c60b63bf4, Apache-2.0) and changed: see NOTICE.
-ghost use Rattle.std.specs.Prelude.{◌≡◌};
-ghost use Rattle.transfer.specs.Status.{status_at};
-ghost use Rattle.sender.specs.Answers.{sought};
-ghost use Rattle.sender.specs.Arrays.{view_of, Fitted, Whole};
+ghost use Rattle.std.specs.Prelude.{◌≡◌, ◌+◌, ◌≤◌};
+ghost use Rattle.token.specs.Token.{stop};
+ghost use Rattle.spach.specs.Refusal.{left};
+ghost use Rattle.transfer.specs.Numbers.{refusal_of};
+ghost use Rattle.transfer.specs.State.{says};
+ghost use Rattle.transfer.specs.Status.{status_at, status_of};
+ghost use Rattle.sender.specs.View.{lent};
 
-use super::table::{find, put};
-use super::walk::walk;
-use super::{FoundAnswer, Sender, Sought};
+use super::Sender;
 use receiver::ArqStatus;
-use transfer::Key;
+use transfer::Error;
 use transfer::effects::{observe, went_out};
 use transfer::queue::has;
 
-// False for an echo that no transfer has, and for one whose Begin did not go out; else `advance` follows.
-pub fn shows(s: Sender, status: ArqStatus) -> Sought
-    requires { Whole s }
-    ensures { Fitted result.sender × (sought result ≡ status_at (view_of s) status) }
-{
-    let found = find(s, Key::Echo(status.partial_echo));
-    let x = found.transfer;
-    let sets = x.sets;
-    if !found.held {
-        return Sought {
-            sender: s,
-            answer: FoundAnswer::Found(false),
+impl Sender {
+    // False for an echo that no transfer has, and for one whose Begin did not go out; else `advance` follows.
+    #[tactic(auto, unfolding(transfer::specs::Status::status_at))]
+    pub(crate) fn hear(&mut self, status: ArqStatus) -> bool
+        requires { 128 + self.old.next_token ≤ stop }
+        ensures { says result self.new ≡ status_at self.old status }
+    {
+        let Some(place) = self.table.place_of_echo(status.partial_echo) else {
+            return false;
         };
+        let x = self.table.transfers[place];
+        if !has(went_out(x.sets), 0) {
+            return false;
+        }
+        let y = observe(status.received_frames, self.table.clock.last_block, x);
+        self.table.put(place, y);
+        self.walk(None);
+        true
     }
-    if !has(went_out(sets), 0) {
-        return Sought {
-            sender: s,
-            answer: FoundAnswer::Found(false),
-        };
-    }
-    let y = observe(status.received_frames, s.last_block, x);
-    let r = walk(put(s, found.place, y), 128);
-    Sought {
-        sender: r,
-        answer: FoundAnswer::Found(true),
+
+    pub(crate) fn status_in_place(
+        &mut self,
+        status: ArqStatus,
+        block: u64,
+        now_ms: u64,
+        store: &[u8],
+        words: &[u64],
+    ) -> Result<bool, Error>
+        ensures { left refusal_of (self.new, result) ≡ status_of self.old (lent store.now words.now) status block now_ms }
+    {
+        self.admit(block, now_ms, store, words)?;
+        self.walk(None);
+        Ok(self.hear(status))
     }
 }

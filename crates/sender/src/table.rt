@@ -1,160 +1,149 @@
-// The transfers and events of a sender, in their arrays.
+// The fields of a sender, and the steps on them after which what `Sender` promises of them need not hold yet.
 // Ported from runtime/spach_arq.rs (chrismoos/136-bts 7c60b63bf4, Apache-2.0) and changed: see NOTICE.
-ghost use Rattle.std.specs.Prelude.{false, ◌∷◌, ◌≡◌, ◌<◌, length};
-ghost use Rattle.transfer.specs.Advance.{kept};
-ghost use Rattle.transfer.specs.Lists.{remove_at};
-ghost use Rattle.transfer.specs.Sought.{key_of, place_of};
-ghost use Rattle.transfer.specs.State.{with_transfers, with_event, put_at, unselect as unselected, clear_selected, cancel_at, blank_transfer};
-ghost use Rattle.sender.specs.Arrays.{selection_of, view_of, Fitted};
+ghost use Rattle.std.specs.Prelude.{◌≡◌, ◌≤◌, ◌<◌, ◌∷◌, IfSome, length, position};
+ghost use Rattle.transfer.specs.Cancel.{owned_by};
+ghost use Rattle.transfer.specs.Enqueue.{addressed};
+ghost use Rattle.transfer.specs.Lists.{any, remove_at};
+ghost use Rattle.transfer.specs.Prepare.{is_ready};
+ghost use Rattle.transfer.specs.State.{of_echo, of_generation, clear_selected, put_at, with_event, with_transfers};
 
-use super::{EventSlot, Selection, Sender};
+use arrayvec::ArrayVec;
 use rach::MobileIdentity;
-use spach::Channel;
-use transfer::settling::begun;
-use transfer::sought::matches;
-use transfer::{Event, Generation, Key, Parcel, Place, Transfer, TransferToken};
+use transfer::constants::ECHO_VALUES;
+use transfer::echo::Echoes;
+use transfer::{Clock, Event, Generation, Limits, PreparedFrame, Transfer, TransferToken};
 
-// Nothing found: the list's length, and the blank transfer beside it.
-pub fn nowhere(n: usize) -> Place
-    ensures { result ≡ record { held = false; place = n; transfer = blank_transfer } }
-{
-    let identity = MobileIdentity::Tmsi20(0);
-    let channel = Channel::Arch;
-    let parcel = Parcel {
-        identity: identity,
-        completion: 0,
-        deadline_ms: 0,
-        owner: TransferToken(0),
-        channel: channel,
-        octets: 0,
-        frames: 0,
-        n: 0,
-    };
-    let x = begun(parcel, 0, 0);
-    Place {
-        held: false,
-        place: n,
-        transfer: x,
-    }
+// Room for the events of as many transfers as may be live, twice over.
+const MOST_EVENTS: usize = 256;
+
+#[derive(Clone, Drop)]
+pub struct Table {
+    pub limits: Limits,
+    pub clock: Clock,
+    // Live transfers, overdue ones too, in the order in which they are served.
+    pub transfers: ArrayVec<Transfer, ECHO_VALUES>,
+    // Events that wait to be taken, oldest first.
+    pub events: ArrayVec<Event, MOST_EVENTS>,
+    pub echoes: Echoes,
+    // The frame that was prepared last, until it is submitted or dropped.
+    pub selected: Option<PreparedFrame>,
+    pub next_token: u64,
 }
 
-// A selection of another generation stays.
-pub fn unselect(selection: Selection, generation: Generation) -> Selection
-    ensures { selection_of result ≡ unselected generation (selection_of selection) }
-{
-    let mut r = selection;
-    let f = selection.frame;
-    let t = f.token;
-    if t.generation.0 == generation.0 {
-        r.held = false;
-    }
-    r
-}
+impl Table {
+    ghost use Rattle.sender.specs.View.{view_of};
+    ghost use Rattle.transfer.specs.State as state;
 
-// The first transfer sought, and its place.
-pub fn find(s: Sender, key: Key) -> Place
-    requires { Fitted s }
-    ensures { result ≡ place_of (key_of key) (view_of s).transfers }
-{
-    let n = s.pending;
-    let mut i = 0;
-    while i < n {
-        let x = s.transfers[i];
-        if matches(x, key) {
-            return Place {
-                held: true,
-                place: i,
-                transfer: x,
-            };
+    // No transfer, no event, every echo free, both clocks at 0.
+    pub(crate) fn fresh(limits: Limits, first: u64) -> Table
+        ensures { view_of result ≡ state.fresh limits.capacity limits.echo_guard_ms limits.startup_until_block first }
+    {
+        Table {
+            limits,
+            clock: Clock {
+                last_block: 0,
+                last_ms: 0,
+            },
+            transfers: ArrayVec::new(),
+            events: ArrayVec::new(),
+            echoes: Echoes::new(),
+            selected: None,
+            next_token: first,
         }
-        i += 1;
     }
-    nowhere(n)
-}
 
-// The transfer at a place is another.
-pub fn put(s: Sender, place: usize, x: Transfer) -> Sender
-    requires { Fitted s × (place < length (view_of s).transfers) }
-    ensures { Fitted result × (view_of result ≡ put_at (view_of s) place x) }
-{
-    let mut r = s;
-    r.transfers[place] = x;
-    r
-}
+    // ---- the place of the first transfer that is sought
 
-// One more at the back.
-pub fn pushed(s: Sender, x: Transfer) -> Sender
-    requires { Fitted s × (length (view_of s).transfers < 128) }
-    ensures { Fitted result × (view_of result ≡ kept (view_of s) x) }
-{
-    let mut r = s;
-    let n = r.pending;
-    r.transfers[n] = x;
-    r.pending = n + 1;
-    r
-}
-
-// The transfer at a place is taken out.
-pub fn removed(s: Sender, place: usize) -> Sender
-    requires { Fitted s × (place < length (view_of s).transfers) }
-    ensures { Fitted result × (view_of result ≡ with_transfers (view_of s) (remove_at place (view_of s).transfers)) }
-{
-    let mut r = s;
-    let n = r.pending - 1;
-    let mut i = place;
-    while i < n {
-        r.transfers[i] = r.transfers[i + 1];
-        i += 1;
+    // Of this echo.
+    pub(crate) fn place_of_echo(&self, echo: u8) -> Option<usize>
+        ensures place { result ≡ position (of_echo echo) self.now.transfers.items }
+        ensures within { IfSome result (λ i. i < length self.now.transfers.items) }
+    {
+        self.transfers.iter().position(|x| x.echo == echo)
     }
-    r.pending = n;
-    r
-}
 
-// The transfer at a place is taken out, and this one put at the front.
-pub fn moved_to_front(s: Sender, place: usize, x: Transfer) -> Sender
-    requires { Fitted s × (place < length (view_of s).transfers) }
-    ensures { Fitted result × (view_of result ≡ with_transfers (view_of s) (x ∷ remove_at place (view_of s).transfers)) }
-{
-    let mut r = s;
-    let mut i = place;
-    while 0 < i {
-        r.transfers[i] = r.transfers[i - 1];
-        i -= 1;
+    // Of this generation.
+    pub(crate) fn place_of_generation(&self, generation: Generation) -> Option<usize>
+        ensures place { result ≡ position (of_generation generation) self.now.transfers.items }
+        ensures within { IfSome result (λ i. i < length self.now.transfers.items) }
+    {
+        self.transfers
+            .iter()
+            .position(|x| x.generation == generation)
     }
-    r.transfers[0] = x;
-    r
+
+    // Of this owner.
+    pub(crate) fn place_of_owner(&self, owner: TransferToken) -> Option<usize>
+        ensures place { result ≡ position (owned_by owner) self.now.transfers.items }
+        ensures within { IfSome result (λ i. i < length self.now.transfers.items) }
+    {
+        self.transfers.iter().position(|x| x.parcel.owner == owner)
+    }
+
+    // To this identity.
+    pub(crate) fn place_of_identity(&self, identity: MobileIdentity) -> Option<usize>
+        ensures place { result ≡ position (addressed identity) self.now.transfers.items }
+        ensures within { IfSome result (λ i. i < length self.now.transfers.items) }
+    {
+        self.transfers.iter().position(|x| is_to(x, identity))
+    }
+
+    // That has a frame queued.
+    pub(crate) fn place_of_ready(&self) -> Option<usize>
+        ensures place { result ≡ position is_ready self.now.transfers.items }
+        ensures within { IfSome result (λ i. i < length self.now.transfers.items) }
+    {
+        self.transfers.iter().position(|x| x.sets.queue != 0)
+    }
+
+    // Some transfer is to this identity.
+    pub(crate) fn contains(&self, identity: MobileIdentity) -> bool
+        ensures { result ≡ any (addressed identity) self.now.transfers.items }
+    {
+        self.transfers.iter().any(|x| is_to(x, identity))
+    }
+
+    // ---- steps
+
+    // No frame of this generation is selected any more.
+    pub(crate) fn unselect(&mut self, generation: Generation)
+        ensures { view_of self.new ≡ clear_selected (view_of self.old) generation }
+    {
+        self.selected = self.selected.filter(|f| f.token.generation != generation);
+    }
+
+    // A transfer of this generation ends: its event waits, and no frame of it is selected.
+    pub(crate) fn end(&mut self, generation: Generation, event: Event)
+        requires { length self.old.events.items < 256 }
+        ensures { view_of self.new ≡ with_event (clear_selected (view_of self.old) generation) event }
+    {
+        self.unselect(generation);
+        self.events.push(event);
+    }
+
+    // The transfer at a place becomes this one.
+    pub(crate) fn put(&mut self, place: usize, x: Transfer)
+        requires { place < length self.old.transfers.items }
+        ensures { view_of self.new ≡ put_at (view_of self.old) place x }
+    {
+        self.transfers[place] = x;
+    }
+
+    // The transfer at a place is taken out, and this one put at the front.
+    pub(crate) fn move_to_front(&mut self, place: usize, x: Transfer)
+        requires place { place < length self.old.transfers.items }
+        requires room { length self.old.transfers.items ≤ 128 }
+        ensures { view_of self.new ≡ with_transfers (view_of self.old) (x ∷ remove_at place self.old.transfers.items) }
+    {
+        self.transfers.remove(place);
+        self.transfers.insert(0, x);
+    }
 }
 
-// One more event waits.
-pub fn with_event(s: Sender, event: Event) -> Sender
-    requires { Fitted s × (length (view_of s).events < 256) }
-    ensures { Fitted result × (view_of result ≡ with_event (view_of s) event) }
+// The transfer is to this identity.
+#[tactic(auto, using(rach::proofs::Laws::eq_same))]
+fn is_to(x: &Transfer, identity: MobileIdentity) -> bool
+    ensures { result ≡ addressed identity x.now }
 {
-    let mut r = s;
-    let m = r.waiting;
-    r.events[m] = EventSlot { event: event };
-    r.waiting = m + 1;
-    r
-}
-
-// A frame of this generation is not selected any more.
-pub fn clear_selected(s: Sender, generation: Generation) -> Sender
-    requires { Fitted s }
-    ensures { Fitted result × (view_of result ≡ clear_selected (view_of s) generation) }
-{
-    let mut r = s;
-    let selected = s.selected;
-    r.selected = unselect(selected, generation);
-    r
-}
-
-// The transfer at a place is taken out, and Cancelled.
-pub fn cancel_at(s: Sender, place: usize, x: Transfer) -> Sender
-    requires { Fitted s × (place < length (view_of s).transfers) × (length (view_of s).events < 256) }
-    ensures { Fitted result × (view_of result ≡ cancel_at (view_of s) place x) }
-{
-    let p = x.parcel;
-    let generation = x.generation;
-    let r = clear_selected(removed(s, place), generation);
-    with_event(r, Event::Cancelled(p.completion))
+    x.parcel.identity == identity
 }

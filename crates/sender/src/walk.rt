@@ -1,74 +1,133 @@
 // The walk of `advance` over the live transfers.
 // Ported from runtime/spach_arq.rs (chrismoos/136-bts 7c60b63bf4, Apache-2.0) and changed: see NOTICE.
-ghost use Rattle.std.specs.Prelude.{◌≡◌};
-ghost use Rattle.transfer.specs.declared.Error.TheVariants.{EchoExhausted};
-ghost use Rattle.transfer.specs.declared.Event.TheVariants.{Failed};
+ghost use Rattle.std.specs.Prelude.{◌≡◌, List, ◌+◌, ◌++◌, ◌≤◌, ◌<◌, length, option_to_list};
+ghost use Rattle.token.specs.Token.{stop};
+ghost use Rattle.transfer.specs.declared.Transfer as transfers;
+ghost use Rattle.spach.specs.Refusal.{left};
 ghost use Rattle.transfer.specs.Advance as advance;
-ghost use Rattle.transfer.specs.Sought.{asked_at};
-ghost use Rattle.sender.specs.Arrays.{view_of, Fitted, Whole};
+ghost use Rattle.transfer.specs.Numbers.{refusal_of};
+ghost use Rattle.transfer.specs.Prepare.{interrupt_of};
+ghost use Rattle.transfer.specs.Echo.{free_echo};
+ghost use Rattle.transfer.specs.Invariant.{Sound};
+ghost use Rattle.transfer.specs.State.{with_transfers};
+ghost use Rattle.sender.specs.Asked.{asked_at};
+ghost use Rattle.sender.specs.View.{lent};
 
-use super::table::unselect;
-use super::{EventSlot, Sender};
+use super::Sender;
+use super::table::Table;
 use token::number_after;
 use transfer::advance::fate_of;
-use transfer::constants::ECHO_VALUES;
-use transfer::echo::free_echo;
 use transfer::settling::begun;
-use transfer::{Error, Event, Fate, FreeEcho};
+use transfer::{Error, Event, Fate, Transfer};
 
-// A restart that found no free echo.
-fn exhausted(completion: u64) -> EventSlot
-    ensures { result ≡ record { event = Failed completion EchoExhausted } }
-{
-    let event = Event::Failed {
-        completion: completion,
-        error: Error::EchoExhausted,
-    };
-    EventSlot { event: event }
-}
+impl Table {
+    ghost use Rattle.sender.specs.View.{view_of};
 
-// Each transfer in turn ends, restarts or stays; the restart of the one at `asked` is asked for. Those that go on move up to
-// the places of those that ended.
-pub fn walk(s: Sender, asked: usize) -> Sender
-    requires { Whole s }
-    ensures { Fitted result × (view_of result ≡ advance.walk (view_of s) (asked_at asked (view_of s).transfers)) }
-{
-    let n = s.pending;
-    let mut r = s;
-    r.pending = 0;
-    let mut i = 0;
-    while i < n {
-        let x = r.transfers[i];
-        let fate = fate_of(r.last_block, r.last_ms, i == asked, x);
-        i += 1;
-        match fate {
-            Fate::Stays(y) => {
-                r.transfers[r.pending] = y;
-                r.pending += 1;
-            }
+    // A transfer begins again under a free echo; with none free it is Failed.
+    fn restart(&mut self, x: &Transfer) -> Option<Transfer>
+        requires room { length self.old.events.items < 256 }
+        requires fits { x.now.parcel.deadline_ms + self.old.limits.echo_guard_ms ≤ stop }
+        ensures step { (before : List transfers.Transfer) → advance.restart (with_transfers (view_of self.old) before) x.now (free_echo self.old.echoes self.old.clock.last_ms)
+            ≡ with_transfers (view_of self.new) (before ++ option_to_list result) }
+        ensures same { self.new.transfers ≡ self.old.transfers }
+        ensures guard { self.new.limits ≡ self.old.limits }
+        ensures one { length self.new.events.items + length (option_to_list result) ≡ length self.old.events.items + 1 }
+    {
+        let Some(echo) = self.echoes.free_echo(self.clock.last_ms) else {
+            let event = Event::Failed {
+                completion: x.parcel.completion,
+                error: Error::EchoExhausted,
+            };
+            self.end(x.generation, event);
+            return None;
+        };
+        self.unselect(x.generation);
+        self.echoes
+            .hold(echo, x.parcel.deadline_ms + self.limits.echo_guard_ms);
+        let y = begun(x.parcel, echo, self.next_token);
+        self.next_token = number_after(self.next_token);
+        Some(y)
+    }
+
+    // A transfer ends, begins again, or stays; what goes on is handed back.
+    #[tactic(auto, unfolding(transfer::specs::Advance::step))]
+    fn turn(&mut self, asked: bool, x: &Transfer) -> Option<Transfer>
+        requires room { length self.old.events.items < 256 }
+        requires fits { x.now.parcel.deadline_ms + self.old.limits.echo_guard_ms ≤ stop }
+        ensures step { (before : List transfers.Transfer) → advance.step (with_transfers (view_of self.old) before) (asked, x.now)
+            ≡ with_transfers (view_of self.new) (before ++ option_to_list result) }
+        ensures same { self.new.transfers ≡ self.old.transfers }
+        ensures guard { self.new.limits ≡ self.old.limits }
+        ensures one { length self.new.events.items + length (option_to_list result) ≡ length self.old.events.items + 1 }
+    {
+        match fate_of(self.clock, asked, x) {
+            Fate::Stays(y) => Some(y),
             Fate::Ends(event) => {
-                r.events[r.waiting] = EventSlot { event: event };
-                r.waiting += 1;
-                r.selected = unselect(r.selected, x.generation);
+                self.end(x.generation, event);
+                None
             }
-            Fate::Restarts => {
-                r.selected = unselect(r.selected, x.generation);
-                match free_echo(&r.echo_until_ms, r.next_echo, r.last_ms) {
-                    FreeEcho::Nothing => {
-                        r.events[r.waiting] = exhausted(x.parcel.completion);
-                        r.waiting += 1;
-                    }
-                    FreeEcho::Echo(e) => {
-                        let echo = e as usize;
-                        r.transfers[r.pending] = begun(x.parcel, e, r.next_token);
-                        r.pending += 1;
-                        r.echo_until_ms[echo] = x.parcel.deadline_ms + r.echo_guard_ms;
-                        r.next_echo = (echo + 1) % ECHO_VALUES;
-                        r.next_token = number_after(r.next_token);
-                    }
-                }
-            }
+            Fate::Restarts => self.restart(x),
         }
     }
-    r
+
+    // Each transfer in turn; the restart of the one at `asked` is asked for. Those that go on move up in place: a list taken
+    // out and made anew would be two more copies of 16 kilobytes.
+    fn walk(&mut self, asked: Option<usize>)
+        requires { Sound (view_of self.old) }
+        ensures { view_of self.new ≡ advance.walk (view_of self.old) (asked_at asked self.old.transfers.items) }
+    {
+        let mut kept = 0;
+        for i in 0..self.transfers.len() {
+            let x = self.transfers[i];
+            if let Some(y) = self.turn(asked == Some(i), &x) {
+                self.put(kept, y);
+                kept += 1;
+            }
+        }
+        self.transfers.truncate(kept);
+    }
+}
+
+impl Sender {
+    // Each transfer ends, begins again or stays, and the restart of the one at `asked` is asked for.
+    pub(crate) fn walk(&mut self, asked: Option<usize>)
+        requires { 128 + self.old.next_token ≤ stop }
+        ensures walked { self.new ≡ advance.walk self.old (asked_at asked self.old.transfers) }
+        ensures tokens { self.new.next_token ≤ self.old.next_token + 128 }
+    {
+        self.table.walk(asked);
+    }
+
+    pub(crate) fn advance_in_place(
+        &mut self,
+        block: u64,
+        now_ms: u64,
+        store: &[u8],
+        words: &[u64],
+    ) -> Result<(), Error>
+        ensures { left refusal_of (self.new, result) ≡ advance.advance_of self.old (lent store.now words.now) block now_ms }
+    {
+        self.admit(block, now_ms, store, words)?;
+        self.walk(None);
+        Ok(())
+    }
+
+    // Whether a transfer has this echo; its restart is then asked for.
+    pub(crate) fn interrupt_in_place(
+        &mut self,
+        echo: u8,
+        block: u64,
+        now_ms: u64,
+        store: &[u8],
+        words: &[u64],
+    ) -> Result<bool, Error>
+        ensures { left refusal_of (self.new, result) ≡ interrupt_of self.old (lent store.now words.now) echo block now_ms }
+    {
+        self.admit(block, now_ms, store, words)?;
+        let Some(place) = self.table.place_of_echo(echo) else {
+            return Ok(false);
+        };
+        self.walk(Some(place));
+        Ok(true)
+    }
 }

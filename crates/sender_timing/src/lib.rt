@@ -1,72 +1,42 @@
-// The loop of a sender's calls, for timing.
+// The loops of a sender's calls, for timing.
 #![tactic(auto)]
 
-pub mod cycles;
-
-ghost use Rattle.sender.specs.Arrays.{Whole};
+mod cycles;
 
 use rach::MobileIdentity;
-use sender::{Enqueued, Sender, Verdict};
-use spach::Channel;
-use transfer::Request;
+use receiver::ArqStatus;
+use sender::Sender;
 
-// Memory for a sender, and 1 to 128 transfers.
-fn fits(live: u64, octets: usize, words: usize) -> bool {
-    if octets < 32640 {
-        return false;
-    }
-    if words < 3456 {
-        return false;
-    }
-    if live == 0 {
-        return false;
-    }
-    live <= 128
-}
-
-// 1 for a call that is not refused.
-fn accepted(verdict: Verdict) -> u64 {
-    match verdict {
-        Verdict::Accepted => 1,
-        Verdict::Refused(error) => 0,
-    }
-}
-
-// The message for the identity `number`.
-pub fn ask(
-    s: Sender,
-    number: u64,
-    deadline_ms: u64,
-    now_ms: u64,
-    store: &mut [u8],
-    words: &[u64],
-) -> Enqueued
-    requires { Whole s }
-    ensures { Whole result.sender }
+// So many rounds, from 1 on, of a call; in how many of them what it gave is done.
+fn times<A, F, G>(rounds: u64, sender: Sender, mut call: F, done: G) -> u64
+where
+    A: Drop,
+    F: FnMut(Sender, u64) -> (Sender, A),
+    G: Fn(&A) -> bool,
+    requires callable { F.IsAlwaysCallable call }
+    requires told { G.IsAlwaysCallable done }
 {
-    let message = [7u8; 255];
-    let request = Request {
-        identity: MobileIdentity::Min34(number),
-        channel: Channel::Arch,
-        completion: number,
-        deadline_ms: deadline_ms,
-    };
-    s.enqueue(request, &message, 0, now_ms, store, words)
+    let mut s = sender;
+    let mut all: u64 = 0;
+    for round in 1..=rounds {
+        let (after, given) = call(s, round);
+        s = after;
+        all = all.wrapping_add(u64::from(done(&given)));
+    }
+    all
 }
 
-// A sender with transfers for the identities after `first`, up to `last`.
-pub fn filled(first: u64, last: u64, store: &mut [u8], words: &[u64]) -> Sender
-    ensures { Whole result }
+// So many rounds of a question; how often the answer is yes.
+fn asks<F>(rounds: u64, s: &Sender, ask: F) -> u64
+where
+    F: Fn(&Sender, u64) -> bool,
+    requires { F.IsAlwaysCallable ask }
 {
-    let made = Sender::try_new(128, 0, 0, 1);
-    let mut s = made.sender;
-    let mut i = first;
-    while i < last {
-        i += 1;
-        let asked = ask(s, i, 1000000000, 0, store, words);
-        s = asked.sender;
+    let mut all: u64 = 0;
+    for round in 1..=rounds {
+        all = all.wrapping_add(u64::from(ask(s, round)));
     }
-    s
+    all
 }
 
 // An identity that no transfer has, another in each round.
@@ -74,57 +44,74 @@ fn stranger(round: u64) -> MobileIdentity {
     MobileIdentity::Min34(256 + round % 256)
 }
 
-fn asks(call: u8, s: Sender, round: u64) -> bool
-    requires { Whole s }
-{
-    if call == 7 {
-        return s.contains(stranger(round));
-    }
-    s.ready()
+// A status of the transfer begun, without frames.
+fn shows(live: u64, rounds: u64, store: &mut [u8], words: &mut [u64]) -> u64 {
+    let (begun, partial_echo) = cycles::begun(live, store, words);
+    let status = ArqStatus {
+        partial_echo,
+        received_frames: 0,
+    };
+    times(
+        rounds,
+        begun,
+        |s, _| s.status(status, 0, 0, store, words),
+        |shown| shown.is_ok(),
+    )
 }
 
-// How many rounds did something, of a call on a sender with `live` transfers of 255 octets at block 0: the three cycles, prepare of
-// the frame that was prepared first, advance, refresh_waiting, cancel and contains of a stranger, ready. 0 at once if the
-// lent memory is too small for a sender, or `live` is not 1 to 128.
+// How many rounds did something, of a call on a sender with `live` transfers of 255 octets at block 0: the next frame,
+// a status, a message that replaces, prepare of the frame that was prepared first, advance, refresh_waiting, cancel and
+// contains of a stranger, ready. 0 at once if the lent memory is too small for a sender, or `live` is not 1 to 128.
 pub fn time_sender(call: u8, live: u64, rounds: u64, store: &mut [u8], words: &mut [u64]) -> u64 {
-    if !fits(live, store.len(), words.len()) {
+    if store.len() < 32640 || words.len() < 3456 || live == 0 || 128 < live {
         return 0;
     }
-    let begun = cycles::set_up(call, live, store, words);
-    let echo = begun.echo;
-    let mut s = begun.sender;
-    let mut all: u64 = 0;
-    let mut round: u64 = 0;
-    while round < rounds {
-        round += 1;
-        if call < 3 {
-            let turn = cycles::cycle(call, s, echo, live, round, store, words);
-            s = turn.sender;
-            all = std::num::wrapping_add_u64(all, turn.done);
-        } else if call == 3 {
-            let prepared = s.prepare(0, 0, store, words);
-            let verdict = prepared.verdict;
-            s = prepared.sender;
-            all = std::num::wrapping_add_u64(all, accepted(verdict));
-        } else if call == 4 {
-            let moved = s.advance(0, 0, store, words);
-            let verdict = moved.verdict;
-            s = moved.sender;
-            all = std::num::wrapping_add_u64(all, accepted(verdict));
-        } else if call == 5 {
-            let moved = s.refresh_waiting(0, 0, store, words);
-            let verdict = moved.verdict;
-            s = moved.sender;
-            all = std::num::wrapping_add_u64(all, accepted(verdict));
-        } else if call == 6 {
-            let cancelled = s.cancel(stranger(round));
-            let found = cancelled.found;
-            s = cancelled.sender;
-            all = std::num::wrapping_add_u64(all, found as u64);
-        } else {
-            let found = asks(call, s, round);
-            all = std::num::wrapping_add_u64(all, found as u64);
-        }
+    if call == 1 {
+        return shows(live, rounds, store, words);
     }
-    all
+    if call == 8 {
+        let s = cycles::emptied(live, store, words);
+        return asks(rounds, &s, |s, _| s.ready());
+    }
+    let s = cycles::filled(u64::from(call == 2), live, store, words);
+    match call {
+        0 => times(
+            rounds,
+            s,
+            |s, _| cycles::next_frame(s, live, store, words),
+            |sent| *sent,
+        ),
+        2 => times(
+            rounds,
+            s,
+            |s, round| cycles::replaced(s, 1, round, store, words),
+            Option::is_some,
+        ),
+        3 => times(
+            rounds,
+            s,
+            |s, _| s.prepare(0, 0, store, words),
+            |prepared| prepared.is_ok(),
+        ),
+        4 => times(
+            rounds,
+            s,
+            |s, _| s.advance(0, 0, store, words),
+            |moved| moved.is_ok(),
+        ),
+        5 => times(
+            rounds,
+            s,
+            |s, _| s.refresh_waiting(0, 0, store, words),
+            |moved| moved.is_ok(),
+        ),
+        6 => times(
+            rounds,
+            s,
+            |s, round| s.cancel(stranger(round)),
+            |found| *found,
+        ),
+        7 => asks(rounds, &s, |s, round| s.contains(stranger(round))),
+        _ => asks(rounds, &s, |s, _| s.ready()),
+    }
 }

@@ -1,19 +1,19 @@
 -- Laws of refusals, header A and the address: each way out of a reader, and which answer it is. Assumes nothing.
 use mathlib.Core.Path.{◌≡◌, sym, ap, ◌∙◌}
-use mathlib.Core.Bool.{Bool, true, false, cond, not}
+use mathlib.Core.Bool.{Bool, false, not}
 use mathlib.Core.List.{List}
-use Prim.Native.Nat.{ℕ, ◌+◌, ◌-◌, ◌/◌, ◌%◌, ◌^◌, ◌≤◌}
+use Prim.Native.Nat.{ℕ, ◌+◌, ◌-◌, ◌*◌, ◌/◌, ◌%◌, ◌^◌, ◌≤◌}
 use native.Mathlib.Nat.{zero-add, add-zero, div-one}
 use native.Mathlib.Omega.{arith}
 use lib.Dec.{eqb}
 use borrow.Author.Tests.{eq-eqb, ne_eqb}
 use lib.ListN.{length}
-use Rattle.field.specs.Bits.{field}
+use Rattle.field.specs.Bits.{bits_of, field}
+use Rattle.field.proofs.Laws.{length-bits_of}
 use Rattle.field.proofs.Window.{subfield}
 use Rattle.rach.specs.Identity.{width_of, identity_of}
 use Rattle.rach.specs.declared.MobileIdentity.{MobileIdentity}
 use Rattle.spach.specs.declared.Channel.{Channel}
-use Rattle.spach.specs.declared.Channel.TheVariants.{Arch, Smsch, Pch}
 use Rattle.spach.specs.Refusal.{gives, refuses}
 use Rattle.spach.specs.Header.{channel_of, header_a_at, identity_at, address_at}
 
@@ -35,21 +35,15 @@ part_of o w bs {x} h e =
           ap (λ n. n % 2) (sym d) ∙ at p 1 (omega arith);
     }
 
--- a usage that is no channel's is refused 3
-pub channel_refused : (u n : ℕ) → channel_of u ≡ refuses n → 3 ≡ n
-channel_refused u n e = go (eqb u 3) (eqb u 4) (eqb u 7) e
-  where
-    go : (a b c : Bool) → cond a (gives Arch) (cond b (gives Smsch) (cond c (gives Pch) (refuses 3))) ≡ refuses n → 3 ≡ n
-    go true b c e = let z : ◌≡◌ {A = ℕ} 0 1 = cc in absurd (omega arith)
-    go false true c e = let z : ◌≡◌ {A = ℕ} 0 1 = cc in absurd (omega arith)
-    go false false true e = let z : ◌≡◌ {A = ℕ} 0 1 = cc in absurd (omega arith)
-    go false false false e = cc
+-- so of the bits of octets
+pub part_read : (o w : ℕ) (xs : List ℕ) {x : ℕ} → o + w ≤ 8 * length xs → x ≡ field o w (bits_of xs) → Parts o w x (bits_of xs)
+part_read o w xs h e = part_of o w (bits_of xs) (omega (arith, length-bits_of xs)) e
 
 module _ (o : ℕ) (bs : List Bool) where
   -- header A: the usage, the fourth flag, the header
-  pub header_a_usage : {n : ℕ} → channel_of (field o 3 bs) ≡ refuses n → refuses 3 ≡ header_a_at o bs
+  pub header_a_usage : {n : ℕ} → channel_of (field o 3 bs) ≡ refuses n → refuses n ≡ header_a_at o bs
   unfolding header_a_at
-  header_a_usage {n} e = rw e (ap refuses (channel_refused (field o 3 bs) n e))
+  header_a_usage e = rw e
 
   pub header_a_reserved : {c : Channel} {x : ℕ} → channel_of (field o 3 bs) ≡ gives c → x ≡ field (o + 6) 1 bs → (x ≡ 0 → ⊥) → refuses 6 ≡ header_a_at o bs
   unfolding header_a_at
@@ -67,10 +61,7 @@ module _ (o : ℕ) (bs : List Bool) where
   unfolding header_a_at
   header_a_read e ep eb em ex h en = rw (e, ← ex, eq-eqb _ 0 h, ep, eb, em, en)
 
-  -- an identity: zero, or the address
-  pub identity_zero : (t : ℕ) (r : Bool) {x w : ℕ} → w ≡ width_of t → x ≡ field o w bs → x ≡ 0 → refuses 2 ≡ identity_at t o r bs
-  identity_zero t r ew ex h = rw (← ew, ← ex, eq-eqb _ 0 h)
-
+  -- an identity that was read
   pub identity_read : (t : ℕ) (r : Bool) {x w n : ℕ} {i : MobileIdentity} → w ≡ width_of t → x ≡ field o w bs → (x ≡ 0 → ⊥) → i ≡ identity_of t x → n ≡ o + w
       → gives (record { identity = i; reservation_response = r; reader = record { offset = n } }) ≡ identity_at t o r bs
   identity_read t r ew ex h ei en = rw (← ew, ← ex, ne_eqb _ 0 h, ei, en)

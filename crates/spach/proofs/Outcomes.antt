@@ -1,13 +1,12 @@
--- Laws of outcomes and of answers. Assumes nothing.
-use mathlib.Core.Path.{◌≡◌, refl, sym, ap, ◌∙◌}
+-- Laws of outcomes, and of answers read by number. Assumes nothing.
+use mathlib.Core.Path.{◌≡◌, refl, ap, ◌∙◌}
 use mathlib.Core.Bool.{Bool, true, false}
 use Prim.Native.Nat.{ℕ}
 use native.Mathlib.Omega.{arith}
-use Rattle.spach.specs.declared.SpachError.{SpachError}
-use Rattle.spach.specs.declared.Verdict.{Verdict}
-use Rattle.spach.specs.declared.Verdict.TheVariants.{Accepted, Refused}
-use Rattle.spach.specs.Refusal.{number_of, Outcome, gives, refuses, refuse, and_then, After, onward, verdict_of}
-use Rattle.spach.specs.Answered.{answered}
+use Rattle.std.specs.Prelude.{Result, Ok, Err}
+use Rattle.std.specs.Result.{IsErrAnd}
+use Rattle.std.proofs.lemmas.Result.{err_from_is_err_and}
+use Rattle.spach.specs.Refusal.{Outcome, gives, refuses, refuse, and_then, by_number, After, onward}
 
 -- what gives a value past a test: the test does not hold, and the rest gives that value
 pub passed : {A : Type 0} (t : Bool) (n : ℕ) (o : Outcome A) {a : A} → refuse t n o ≡ gives a → (t ≡ false) × (o ≡ gives a)
@@ -23,15 +22,27 @@ then-gives (refuses n) f e = let z : ◌≡◌ {A = ℕ} 0 1 = cc in absurd (ome
 pub gives_same : {A : Type 0} {a b : A} → gives a ≡ gives b → a ≡ b
 gives_same e = cc
 
--- an answer that is accepted has the outcome's value
-pub answered_gives : {A : Type 0} (blank : A) (o : Outcome A) {v : Verdict} {a : A} → (verdict_of v, a) ≡ answered blank o → v ≡ Accepted → o ≡ gives a
-answered_gives blank (gives b) e q = ap gives (sym (ap (λ z. z.1) e))
-answered_gives blank (refuses n) e q = let w = sym (ap verdict_of q) ∙ ap (λ z. z.0) e in let z : ◌≡◌ {A = ℕ} 0 1 = cc in absurd (omega arith)
+-- and outcomes that refuse refuse by the same number
+pub refuses_same : {A : Type 0} {m n : ℕ} → ◌≡◌ {A = Outcome A} (refuses m) (refuses n) → m ≡ n
+refuses_same e = cc
 
--- and one that is refused has its number, and the blank value beside it
-pub answered_refuses : {A : Type 0} (blank : A) (o : Outcome A) {v : Verdict} {a : A} {x : SpachError} → (verdict_of v, a) ≡ answered blank o → v ≡ Refused x → (o ≡ refuses (number_of x)) × (a ≡ blank)
-answered_refuses blank (gives b) e q = let w = sym (ap verdict_of q) ∙ ap (λ z. z.0) e in let z : ◌≡◌ {A = ℕ} 0 1 = cc in absurd (omega arith)
-answered_refuses blank (refuses n) {x = x} e q = let w : ◌≡◌ {A = Outcome Unit} (refuses (number_of x)) (refuses n) = sym (ap verdict_of q) ∙ ap (λ z. z.0) e in let z : n ≡ number_of x = cc in (ap refuses z, ap (λ y. y.1) e)
+-- an answer whose reading gives a value is that value
+pub given : {A E : Type 0} (number : E → ℕ) (r : Result A E) {a : A} → by_number number r ≡ gives a → r ≡ Ok a
+given number (Ok b) e = ap Ok (gives_same e)
+given number (Err x) e = let z : ◌≡◌ {A = ℕ} 0 1 = cc in absurd (omega arith)
+
+-- and one whose reading refuses is an error of that number
+pub refused : {A E : Type 0} (number : E → ℕ) (r : Result A E) {n : ℕ} → by_number number r ≡ refuses n → (x : E) × (r ≡ Err x) × (number x ≡ n)
+refused number (Ok b) e = let z : ◌≡◌ {A = ℕ} 0 1 = cc in absurd (omega arith)
+refused number (Err x) e = (x, refl, refuses_same e)
+
+-- where a `?` returns: what it hands on refuses by the number of what came to it
+pub handed : {A E : Type 0} (number : E → ℕ) (r : Result A E) {Q : E → Type 0} {n : ℕ} → IsErrAnd r Q → ((x : E) → Q x → number x ≡ n) → by_number number r ≡ refuses n
+handed number r h q = let p = err_from_is_err_and r h in ap (by_number number) p.1 ∙ ap refuses (q p.0 p.2)
+
+-- and where the error goes on as it is
+pub handed_on : {A E : Type 0} (number : E → ℕ) (r : Result A E) {y : E} → IsErrAnd r (λ x. x ≡ y) → by_number number r ≡ refuses (number y)
+handed_on number r h = handed number r h (λ x e. ap number e)
 
 -- a law of what a call leaves holds if it holds of the state as it was and of all that the call goes on to
 pub onward_cases : {A S : Type 0} (P : S → Type 0) (s : S) (o : Outcome S) (f : S → After A S) → P s → ((t : S) → o ≡ gives t → P (f t).state) → P (onward s o f).state

@@ -7,48 +7,28 @@ use Prim.Native.Nat.{ℕ, ◌+◌}
 use lib.Dec.{eqb}
 use Rattle.field.specs.Bits.{field}
 use Rattle.rach.specs.Identity.{width_of, identity_of}
-use Rattle.rach.specs.declared.MobileIdentity.{MobileIdentity}
-use Rattle.spach.specs.declared.SpachError.{SpachError}
+use Rattle.std.specs.Prelude.{Result, Ok, Err}
 use Rattle.spach.specs.declared.SpachError.TheVariants.{Length, Identity, UnsupportedUsage, UnsupportedFrame, Encrypted, Reserved, Filler, PartialEcho, FrameNumber, Payload, DuplicateConflict, Padding, Room, Tokens}
 use Rattle.spach.specs.declared.Channel.{Channel}
 use Rattle.spach.specs.declared.Channel.TheVariants.{Arch, Smsch, Pch}
 use Rattle.spach.specs.declared.HeaderA.{HeaderA}
-use Rattle.spach.specs.declared.Address.{Address}
-use Rattle.spach.specs.declared.Verdict.TheVariants as verdicts
-use Rattle.spach.specs.declared.IdentityAnswer.TheVariants as identities
-use Rattle.spach.specs.declared.ChannelAnswer.TheVariants as channels
-use Rattle.spach.specs.declared.HeaderAAnswer.TheVariants as headers
-use Rattle.spach.specs.declared.AddressAnswer.TheVariants as addresses
-use Rattle.spach.specs.Refusal.{number_of, Outcome, gives, refuses, refuse, and_then, After, onward, verdict_of}
-use Rattle.spach.specs.Answered.{answered}
-use Rattle.spach.specs.Identity.{identity_answer}
-use Rattle.spach.specs.Header.{channel_of, header_a_at, address_at, channel_answer, header_a_answer, address_answer, usage_of}
+use Rattle.spach.specs.Refusal.{number_of, Outcome, gives, refuses, refuse, and_then, by_number, After, left, onward}
+use Rattle.spach.specs.Header.{channel_of, header_a_at, address_at, usage_of}
 
 -- the numbers of the errors
 pub numbers : (number_of Length ≡ 1) × (number_of Identity ≡ 2) × (number_of UnsupportedUsage ≡ 3) × (number_of UnsupportedFrame ≡ 4) × (number_of Encrypted ≡ 5) × (number_of Reserved ≡ 6) × (number_of Filler ≡ 7)
     × (number_of PartialEcho ≡ 11) × (number_of FrameNumber ≡ 12) × (number_of Payload ≡ 13) × (number_of DuplicateConflict ≡ 14) × (number_of Padding ≡ 15) × (number_of Room ≡ 16) × (number_of Tokens ≡ 18)
 numbers = (refl, refl, refl, refl, refl, refl, refl, refl, refl, refl, refl, refl, refl, refl)
 
-pub verdicts_say : (verdict_of verdicts.Accepted ≡ gives tt) × ((e : SpachError) → verdict_of (verdicts.Refused e) ≡ refuses (number_of e))
-verdicts_say = (refl, λ e. refl)
+-- an answer is its value, or the number of its error; and a call that hands back the state leaves that state and its answer
+module _ {A E : Type 0} (number : E → ℕ) where
+  pub by_number-says : (a : A) (x : E) → (by_number number (Ok a) ≡ gives a) × (by_number {A = A} number (Err x) ≡ refuses (number x))
+  by_number-says a x = (refl, refl)
 
-pub identities_say : ((i : MobileIdentity) → identity_answer (identities.Identity i) ≡ gives i) × ((e : SpachError) → identity_answer (identities.Refused e) ≡ refuses (number_of e))
-identities_say = (λ i. refl, λ e. refl)
-
-pub channels_say : ((c : Channel) → channel_answer (channels.Channel c) ≡ gives c) × ((e : SpachError) → channel_answer (channels.Refused e) ≡ refuses (number_of e))
-channels_say = (λ c. refl, λ e. refl)
-
-pub headers_say : ((h : HeaderA) → header_a_answer (headers.Header h) ≡ gives h) × ((e : SpachError) → header_a_answer (headers.Refused e) ≡ refuses (number_of e))
-headers_say = (λ h. refl, λ e. refl)
-
-pub addresses_say : ((a : Address) → address_answer (addresses.Address a) ≡ gives a) × ((e : SpachError) → address_answer (addresses.Refused e) ≡ refuses (number_of e))
-addresses_say = (λ a. refl, λ e. refl)
+  pub left-says : {S : Type 0} (s : S) (r : Result A E) → left number (s, r) ≡ record { outcome = by_number number r; state = s }
+  left-says s r = refl
 
 module _ {A : Type 0} where
-  -- a value, or a refusal beside the blank value
-  pub answered-says : (blank a : A) (n : ℕ) → (answered blank (gives a) ≡ (gives tt, a)) × (answered blank (refuses n) ≡ (refuses n, blank))
-  answered-says blank a n = (refl, refl)
-
   -- a test that holds refuses by its number, whatever follows; else it is what follows
   pub refuse-says : (n : ℕ) (o : Outcome A) → (refuse true n o ≡ refuses n) × (refuse false n o ≡ o)
   refuse-says n o = (refl, refl)

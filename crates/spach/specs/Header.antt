@@ -6,16 +6,10 @@ use Rattle.rach.specs.Identity.{type_of, value_of, width_of, identity_of}
 use Rattle.rach.specs.declared.MobileIdentity.{MobileIdentity}
 use Rattle.spach.specs.declared.Channel.{Channel}
 use Rattle.spach.specs.declared.Channel.TheVariants.{Arch, Smsch, Pch}
-use Rattle.spach.specs.declared.ChannelAnswer.{ChannelAnswer}
-use Rattle.spach.specs.declared.ChannelAnswer.TheVariants as channels
 use Rattle.spach.specs.declared.HeaderFlags.{HeaderFlags}
 use Rattle.spach.specs.declared.HeaderA.{HeaderA}
-use Rattle.spach.specs.declared.HeaderAAnswer.{HeaderAAnswer}
-use Rattle.spach.specs.declared.HeaderAAnswer.TheVariants as headers
 use Rattle.spach.specs.declared.Address.{Address}
-use Rattle.spach.specs.declared.AddressAnswer.{AddressAnswer}
-use Rattle.spach.specs.declared.AddressAnswer.TheVariants as addresses
-use Rattle.spach.specs.Refusal.{Outcome, gives, refuses, refuse, and_then, number_of}
+use Rattle.spach.specs.Refusal.{Outcome, gives, refuses, refuse, and_then}
 
 -- ---- laid out: each field a width in bits and a number, in the order in which they are sent
 
@@ -104,20 +98,3 @@ address_at o bs =
     refuse (is_set (o + 2) bs) 4
     (refuse (is_set (o + 4) bs) 5
     (identity_at (field o 2 bs) (o + 5) (is_set (o + 3) bs) bs))
-
--- ---- answers by number
-
--- a channel, or its refusal
-abbrev pub channel_answer : ChannelAnswer → Outcome Channel
-channel_answer (channels.Channel c) = gives c
-channel_answer (channels.Refused e) = refuses (number_of e)
-
--- header A, or its refusal
-abbrev pub header_a_answer : HeaderAAnswer → Outcome HeaderA
-header_a_answer (headers.Header h) = gives h
-header_a_answer (headers.Refused e) = refuses (number_of e)
-
--- an address, or its refusal
-abbrev pub address_answer : AddressAnswer → Outcome Address
-address_answer (addresses.Address a) = gives a
-address_answer (addresses.Refused e) = refuses (number_of e)

@@ -2,14 +2,7 @@
 use Rattle.std.specs.Prelude.{not, ℕ, ltb}
 use Rattle.rach.specs.Identity.{identity_of, width_of, in_range, encodable}
 use Rattle.rach.specs.declared.MobileIdentity.{MobileIdentity}
-use Rattle.spach.specs.declared.IdentityAnswer.{IdentityAnswer}
-use Rattle.spach.specs.declared.IdentityAnswer.TheVariants.{Identity, Refused}
-use Rattle.spach.specs.Refusal.{Outcome, gives, refuses, refuse, number_of}
-
--- an identity, or its refusal by number
-abbrev pub identity_answer : IdentityAnswer → Outcome MobileIdentity
-identity_answer (Identity i) = gives i
-identity_answer (Refused e) = refuses (number_of e)
+use Rattle.spach.specs.Refusal.{Outcome, gives, refuse}
 
 -- 2 for an identity that cannot be encoded
 unfoldable pub check_identity : MobileIdentity → Outcome Unit

@@ -1,9 +1,7 @@
 -- 01, "Refused, operation by operation": refusals by number, and answers that are a value or a refusal. Assumes nothing.
-use Rattle.std.specs.Prelude.{Bool, true, false, ℕ}
+use Rattle.std.specs.Prelude.{Bool, true, false, ℕ, Result, Ok, Err}
 use Rattle.spach.specs.declared.SpachError.{SpachError}
 use Rattle.spach.specs.declared.SpachError.TheVariants.{Length, Identity, UnsupportedUsage, UnsupportedFrame, Encrypted, Reserved, Filler, PartialEcho, FrameNumber, Payload, DuplicateConflict, Padding, Room, Tokens}
-use Rattle.spach.specs.declared.Verdict.{Verdict}
-use Rattle.spach.specs.declared.Verdict.TheVariants.{Accepted, Refused}
 
 -- SpachError's numbers; Padding, Room and Tokens are added to the Rust's
 abbrev pub number_of : SpachError → ℕ
@@ -37,15 +35,19 @@ abbrev pub and_then : {A B : Type 0} → Outcome A → (A → Outcome B) → Out
 and_then (gives a) f = f a
 and_then (refuses n) f = refuses n
 
--- an answer that has no value
-abbrev pub verdict_of : Verdict → Outcome Unit
-verdict_of Accepted = gives tt
-verdict_of (Refused e) = refuses (number_of e)
+-- an answer, its refusal by number
+abbrev pub by_number : {A E : Type 0} → (E → ℕ) → Result A E → Outcome A
+by_number number (Ok a) = gives a
+by_number number (Err e) = refuses (number e)
 
 -- what a call leaves: its outcome, and the state afterwards
 pub record After (A S : Type 0) : Type 0 where
   pub outcome : Outcome A
   pub state : S
+
+-- that of a call which hands back the state and its answer, the refusal by number
+abbrev pub left : {S A E : Type 0} → (E → ℕ) → S × Result A E → After A S
+left number r = record { outcome = by_number number r.1; state = r.0 }
 
 -- a refusal leaves the state s as it was; else the call goes on with the state that was let through
 abbrev pub onward : {A S : Type 0} → S → Outcome S → (S → After A S) → After A S

@@ -2,17 +2,18 @@
 // Ported from link/spach.rs (chrismoos/136-bts 7c60b63bf4, Apache-2.0) and changed: see NOTICE.
 #![tactic(auto)]
 
-ghost use Rattle.std.specs.Prelude.{◌≡◌, ◌+◌, ◌^◌, ◌<◌};
+ghost use Rattle.std.specs.Prelude.{◌≡◌, ◌+◌, ◌^◌, ◌<◌, ℕ};
 ghost use Rattle.field.specs.Bits.{bits_of, field};
 ghost use Rattle.field.specs.Spans.{Placed, Run};
-ghost use Rattle.spach.specs.Refusal.{number_of, verdict_of};
-ghost use Rattle.spach.specs.Identity.{identity_answer, check_identity, accept_identity};
-ghost use Rattle.spach.specs.Header.{usage_of, channel_answer, channel_of, header_a_answer, header_a_at, address_answer, identity_at, address_at};
+ghost use Rattle.spach.specs.Refusal.{number_of, by_number};
+ghost use Rattle.spach.specs.Apart.{numbers_apart};
+ghost use Rattle.spach.specs.Identity.{check_identity, accept_identity};
+ghost use Rattle.spach.specs.Header.{usage_of, channel_of, header_a_at, identity_at, address_at};
 
 use rach::MobileIdentity;
 
 // Why a frame, a message or a call is refused. Padding, Room and Tokens are added to the Rust's.
-#[derive(Clone, Copy)]
+#[derive(Clone, Copy, Debug, PartialEq, Eq)]
 pub enum SpachError {
     Length,
     Identity,
@@ -30,11 +31,22 @@ pub enum SpachError {
     Tokens,
 }
 
-impl SpachError {
-    // Document 01's number.
-    pub fn number(self) -> u8
-        ensures { result ≡ number_of self }
-    {
+// An error that has a number in document 01, which tells it from the others of its type.
+pub trait Numbered: Sized {
+    ghost number_of: { Self → ℕ };
+
+    fn number(self) -> u8
+        ensures { result ≡ number_of self };
+
+    ghost numbers_apart: { (a b : Self) → number_of a ≡ number_of b → a ≡ b };
+}
+
+impl Numbered for SpachError {
+    ghost number_of = { number_of };
+
+    ghost numbers_apart = { numbers_apart };
+
+    fn number(self) -> u8 {
         match self {
             SpachError::Length => 1,
             SpachError::Identity => 2,
@@ -54,83 +66,52 @@ impl SpachError {
     }
 }
 
-// An answer that has no value of its own.
-#[derive(Clone, Copy)]
-pub enum Verdict {
-    Accepted,
-    Refused(SpachError),
-}
-
-#[derive(Clone, Copy)]
-pub enum IdentityAnswer {
-    Identity(MobileIdentity),
-    Refused(SpachError),
-}
-
 // An identity can be encoded, or is refused 2.
-pub fn check_identity(identity: MobileIdentity) -> Verdict
-    ensures { verdict_of result ≡ check_identity identity }
+pub fn check_identity(identity: MobileIdentity) -> Result<(), SpachError>
+    ensures { by_number number_of result ≡ check_identity identity }
 {
     if identity.encodable() {
-        Verdict::Accepted
+        Ok(())
     } else {
-        Verdict::Refused(SpachError::Identity)
+        Err(SpachError::Identity)
     }
 }
 
 // The identity of a type and a value, whatever they are, or a refusal 2.
-pub fn accept_identity(identity_type: u8, value: u64) -> IdentityAnswer
-    ensures { identity_answer result ≡ accept_identity identity_type value }
+pub fn accept_identity(identity_type: u8, value: u64) -> Result<MobileIdentity, SpachError>
+    ensures { by_number number_of result ≡ accept_identity identity_type value }
 {
-    if 3 < identity_type {
-        return IdentityAnswer::Refused(SpachError::Identity);
+    if 3 < identity_type || !rach::in_range(value, rach::width_of(identity_type)) {
+        return Err(SpachError::Identity);
     }
-    if rach::in_range(value, rach::width_of(identity_type)) {
-        IdentityAnswer::Identity(rach::identity_of(identity_type, value))
-    } else {
-        IdentityAnswer::Refused(SpachError::Identity)
-    }
+    Ok(rach::identity_of(identity_type, value))
 }
 
 // Where the next field starts.
-#[derive(Clone, Copy)]
+#[derive(Clone, Copy, Debug, PartialEq, Eq)]
 pub struct Reader {
     pub offset: usize,
 }
 
-#[derive(Clone, Copy)]
-pub struct Taken {
-    pub value: u64,
-    pub reader: Reader,
-}
-
 impl Reader {
     // The field of width bits at the cursor, and the cursor past it.
-    pub fn take(self, octets: &[u8], width: usize) -> Taken
+    pub fn take(self, octets: &[u8], width: usize) -> (u64, Reader)
         requires { Placed octets.now self.offset width }
-        ensures { (result.value ≡ field self.offset width (bits_of octets.now)) × (result.value < 2 ^ width) × (result.reader.offset ≡ self.offset + width) }
+        ensures value { result.0 ≡ field self.offset width (bits_of octets.now) }
+        ensures below { result.0 < 2 ^ width }
+        ensures next { result.1.offset ≡ self.offset + width }
     {
-        let offset = self.offset;
-        Taken {
-            value: field::read_field(octets, offset, width),
-            reader: Reader {
-                offset: offset + width,
-            },
-        }
+        let value = field::read_field(octets, self.offset, width);
+        let offset = self.offset + width;
+        (value, Reader { offset })
     }
 }
 
-#[derive(Clone, Copy)]
+#[derive(Clone, Copy, Debug, PartialEq, Eq)]
 pub enum Channel {
     Arch,
     Smsch,
     Pch,
-}
-
-#[derive(Clone, Copy)]
-pub enum ChannelAnswer {
-    Channel(Channel),
-    Refused(SpachError),
 }
 
 impl Channel {
@@ -147,22 +128,22 @@ impl Channel {
 }
 
 // The channel of a usage.
-pub fn channel_of(usage: u64) -> ChannelAnswer
-    ensures { channel_answer result ≡ channel_of usage }
-{
-    if usage == 3 {
-        return ChannelAnswer::Channel(Channel::Arch);
+impl TryFrom<u64> for Channel {
+    type Error = SpachError;
+
+    ghost try_from_gives = { λ usage r. by_number number_of r ≡ channel_of usage };
+
+    fn try_from(usage: u64) -> Result<Channel, SpachError> {
+        match usage {
+            3 => Ok(Channel::Arch),
+            4 => Ok(Channel::Smsch),
+            7 => Ok(Channel::Pch),
+            _ => Err(SpachError::UnsupportedUsage),
+        }
     }
-    if usage == 4 {
-        return ChannelAnswer::Channel(Channel::Smsch);
-    }
-    if usage == 7 {
-        return ChannelAnswer::Channel(Channel::Pch);
-    }
-    ChannelAnswer::Refused(SpachError::UnsupportedUsage)
 }
 
-#[derive(Clone, Copy)]
+#[derive(Clone, Copy, Debug, PartialEq, Eq)]
 pub struct HeaderFlags {
     pub pch_continuation: bool,
     pub bcch_change: bool,
@@ -171,31 +152,22 @@ pub struct HeaderFlags {
 }
 
 // Header A as it was read, and the cursor past it.
-#[derive(Clone, Copy)]
+#[derive(Clone, Copy, Debug, PartialEq, Eq)]
 pub struct HeaderA {
     pub channel: Channel,
     pub flags: HeaderFlags,
     pub reader: Reader,
 }
 
-#[derive(Clone, Copy)]
-pub enum HeaderAAnswer {
-    Header(HeaderA),
-    Refused(SpachError),
-}
-
 // Header A at the cursor, taken as one number. Its flags lack the reservation response, which header B has.
-pub fn read_header_a(octets: &[u8], reader: Reader) -> HeaderAAnswer
+pub fn read_header_a(octets: &[u8], reader: Reader) -> Result<HeaderA, SpachError>
     requires { Run octets.now reader.offset 7 }
-    ensures { header_a_answer result ≡ header_a_at reader.offset (bits_of octets.now) }
+    ensures { by_number number_of result ≡ header_a_at reader.offset (bits_of octets.now) }
 {
-    let taken = reader.take(octets, 7);
-    let bits = taken.value;
-    let ChannelAnswer::Channel(channel) = channel_of(bits / 16 % 8) else {
-        return HeaderAAnswer::Refused(SpachError::UnsupportedUsage);
-    };
+    let (bits, reader) = reader.take(octets, 7);
+    let channel = Channel::try_from(bits / 16 % 8)?;
     if bits % 2 != 0 {
-        return HeaderAAnswer::Refused(SpachError::Reserved);
+        return Err(SpachError::Reserved);
     }
     let flags = HeaderFlags {
         pch_continuation: bits / 8 % 2 != 0,
@@ -203,26 +175,19 @@ pub fn read_header_a(octets: &[u8], reader: Reader) -> HeaderAAnswer
         paging_frame_modifier: bits / 2 % 2 != 0,
         reservation_response: false,
     };
-    let next = taken.reader;
-    HeaderAAnswer::Header(HeaderA {
-        channel: channel,
-        flags: flags,
-        reader: next,
+    Ok(HeaderA {
+        channel,
+        flags,
+        reader,
     })
 }
 
 // A Begin's address as it was read, and the cursor past it.
-#[derive(Clone, Copy)]
+#[derive(Clone, Copy, Debug, PartialEq, Eq)]
 pub struct Address {
     pub identity: MobileIdentity,
     pub reservation_response: bool,
     pub reader: Reader,
-}
-
-#[derive(Clone, Copy)]
-pub enum AddressAnswer {
-    Address(Address),
-    Refused(SpachError),
 }
 
 // The identity of a type that was read, at the cursor.
@@ -231,38 +196,33 @@ fn read_identity(
     reader: Reader,
     identity_type: u8,
     reservation_response: bool,
-) -> AddressAnswer
+) -> Result<Address, SpachError>
     requires { Run octets.now reader.offset 50 }
-    ensures { address_answer result ≡ identity_at identity_type reader.offset reservation_response (bits_of octets.now) }
+    ensures { by_number number_of result ≡ identity_at identity_type reader.offset reservation_response (bits_of octets.now) }
 {
-    let width = rach::width_of(identity_type);
-    let value = reader.take(octets, width);
-    if value.value == 0 {
-        return AddressAnswer::Refused(SpachError::Identity);
+    let (value, reader) = reader.take(octets, rach::width_of(identity_type));
+    if value == 0 {
+        return Err(SpachError::Identity);
     }
-    let identity = rach::identity_of(identity_type, value.value);
-    let next = value.reader;
-    AddressAnswer::Address(Address {
-        identity: identity,
-        reservation_response: reservation_response,
-        reader: next,
+    Ok(Address {
+        identity: rach::identity_of(identity_type, value),
+        reservation_response,
+        reader,
     })
 }
 
 // Identity type, a bit, reservation response and encrypted bit at the cursor, taken as one number; then the identity.
-pub fn read_address(octets: &[u8], reader: Reader) -> AddressAnswer
+pub fn read_address(octets: &[u8], reader: Reader) -> Result<Address, SpachError>
     requires { Run octets.now reader.offset 55 }
-    ensures { address_answer result ≡ address_at reader.offset (bits_of octets.now) }
+    ensures { by_number number_of result ≡ address_at reader.offset (bits_of octets.now) }
 {
-    let taken = reader.take(octets, 5);
-    let bits = taken.value;
+    let (bits, reader) = reader.take(octets, 5);
     if bits / 4 % 2 != 0 {
-        return AddressAnswer::Refused(SpachError::UnsupportedFrame);
+        return Err(SpachError::UnsupportedFrame);
     }
     if bits % 2 != 0 {
-        return AddressAnswer::Refused(SpachError::Encrypted);
+        return Err(SpachError::Encrypted);
     }
     let identity_type = (bits / 8 % 4) as u8;
-    let next = taken.reader;
-    read_identity(octets, next, identity_type, bits / 2 % 2 != 0)
+    read_identity(octets, reader, identity_type, bits / 2 % 2 != 0)
 }

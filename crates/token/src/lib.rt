@@ -8,15 +8,12 @@ ghost use Rattle.token.specs.Token.{number_after, fewer_than};
 pub fn number_after(n: u64) -> u64
     ensures { result ≡ number_after n }
 {
-    if n < 18446744073709551615 {
-        return n + 1;
-    }
-    n
+    n.saturating_add(1)
 }
 
 // Whether fewer than k tokens are left.
 pub fn fewer_than(k: u64, next: u64) -> bool
     ensures { result ≡ fewer_than k next }
 {
-    18446744073709551615 - next < k
+    u64::MAX - next < k
 }

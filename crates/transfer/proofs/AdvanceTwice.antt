@@ -3,7 +3,7 @@ use mathlib.Core.Path.{◌≡◌, refl, sym, ap, subst, ◌∙◌}
 use mathlib.Core.Logic.{⊎_elim}
 use mathlib.Core.Bool.{Bool, true, false, cond, not, ◌&&◌, ◌||◌, true≢false}
 use mathlib.Core.List.{List, [], ◌∷◌, ◌++◌, foldl, append_assoc, append-nil}
-use mathlib.Core.Option.{Option, none, some}
+use Rattle.std.specs.Prelude.{Option, None, Some}
 use Prim.Native.Nat.{ℕ, zero, suc, ◌-◌, ◌^◌, ◌≤◌, ◌<◌, min}
 use native.Mathlib.Omega.{arith}
 use lib.Count.{ones}
@@ -19,8 +19,6 @@ use Rattle.transfer.specs.declared.Fate.{Fate}
 use Rattle.transfer.specs.declared.Fate.TheVariants.{Ends, Restarts, Stays}
 use Rattle.transfer.specs.declared.Parcel.{Parcel}
 use Rattle.transfer.specs.declared.PreparedFrame.{PreparedFrame}
-use Rattle.transfer.specs.declared.Since.{Since}
-use Rattle.transfer.specs.declared.Since.TheVariants.{Never, Block}
 use Rattle.transfer.specs.declared.Transfer.{Transfer}
 use Rattle.transfer.specs.Lists.{remove_at}
 use Rattle.transfer.specs.Queue.{is_empty, first_frames, continues_of, without}
@@ -41,8 +39,8 @@ use Rattle.transfer.proofs.Walked.{fate_cases, step_near, walked_near}
 
 -- a restart reads of it the parcel and the generation
 pub restart-same : (u : View) (y x : Transfer) → y.parcel ≡ x.parcel → y.generation ≡ x.generation → (o : Option ℕ) → restart u y o ≡ restart u x o
-restart-same u y x p g none = rw (p, g)
-restart-same u y x p g (some echo) = rw (p, g)
+restart-same u y x p g None = rw (p, g)
+restart-same u y x p g (Some echo) = rw (p, g)
 
 -- and so does every fate
 landed-same : (u : View) (y x : Transfer) → y.parcel ≡ x.parcel → y.generation ≡ x.generation → (f : Fate) → landed u y f ≡ landed u x f
@@ -53,9 +51,9 @@ landed-same u y x p g (Stays z) = refl
 -- ---- a transfer is settled once
 
 -- waiting already, it waits no later
-waits_twice : (block : ℕ) (s : Since) → or_from block (or_from block s) ≡ or_from block s
-waits_twice block Never = refl
-waits_twice block (Block b) = refl
+waits_twice : (block : ℕ) (s : Option ℕ) → or_from block (or_from block s) ≡ or_from block s
+waits_twice block None = refl
+waits_twice block (Some b) = refl
 
 -- waiting is nothing to `done`
 waits-done : (block : ℕ) (x : Transfer) → done_of (waits block x) ≡ done_of x
@@ -126,7 +124,7 @@ module _ (x : Transfer) (s : SetsAgree x) (n : 1 ≤ x.parcel.frames) where
       go true false false e f g =
           let y = waits block x in
           sym (settle_waits block y (sym e) refl (sym (waits-done block x ∙ f)) refl g)
-          ∙ ap (λ (t : Since). with_blocks x (record { last_progress = x.blocks.last_progress; last_frame = x.blocks.last_frame; waiting_since = t })) (waits_twice block x.blocks.waiting_since)
+          ∙ ap (λ (t : Option ℕ). with_blocks x (record { last_progress = x.blocks.last_progress; last_frame = x.blocks.last_frame; waiting_since = t })) (waits_twice block x.blocks.waiting_since)
 
   -- ---- `settle` before `advance`
 
@@ -225,8 +223,8 @@ step_rests u x s h =
     (λ o d r. all_back u.transfers (settle_of u.clock.last_block x) (rests_settled u.clock x s.0 s.1 o d r) h)
   where
     again : overdue u.clock x ≡ false → (o : Option ℕ) → All (Rests u.clock) (restart u x o).transfers
-    again q none = h
-    again q (some echo) = all_back u.transfers (begun x.parcel echo u.next_token) (rests_begun u.clock x echo u.next_token s.1 q) h
+    again q None = h
+    again q (Some echo) = all_back u.transfers (begun x.parcel echo u.next_token) (rests_begun u.clock x echo u.next_token s.1 q) h
 
 -- after all steps
 steps_rest : (l : List Transfer) (u : View) → All Agrees l → All (Rests u.clock) u.transfers → All (Rests u.clock) (foldl step u (unasked l)).transfers

@@ -1,4 +1,5 @@
 -- A live transfer stays live through each change that a call makes to it, and a chosen frame stays chosen. Assumes nothing.
+use Rattle.std.specs.Prelude.{Option, None, Some}
 use mathlib.Core.Path.{◌≡◌, refl, sym, ap, subst, ◌∙◌}
 use mathlib.Core.Bool.{Bool, true, false, cond, not, ◌&&◌, ◌||◌, true≢false}
 use Prim.Native.Nat.{ℕ, zero, suc, ◌-◌, ◌^◌, ◌≤◌, ◌<◌, min}
@@ -13,8 +14,6 @@ use Rattle.arq.proofs.Theorems.{cut_most}
 use Rattle.receiver.specs.Map.{bit_of, with_bit}
 use Rattle.receiver.proofs.Maps.{added_lt, bit-or}
 use Rattle.transfer.specs.declared.Sets.{Sets}
-use Rattle.transfer.specs.declared.Since.{Since}
-use Rattle.transfer.specs.declared.Since.TheVariants.{Never, Block}
 use Rattle.transfer.specs.declared.Blocks.{Blocks}
 use Rattle.transfer.specs.declared.Transfer.{Transfer}
 use Rattle.transfer.specs.declared.PreparedFrame.{PreparedFrame}
@@ -66,15 +65,15 @@ ready_busy x h = let e : is_empty x.sets.queue ≡ false = not-true (is_empty x.
 -- ---- blocks
 
 -- it waits from this block on, or did before
-waits_by : (block : ℕ) (s : Since) → ByBlock block s → ByBlock block (or_from block s)
-waits_by block Never h = omega arith
-waits_by block (Block b) h = h
+waits_by : (block : ℕ) (s : Option ℕ) → ByBlock block s → ByBlock block (or_from block s)
+waits_by block None h = omega arith
+waits_by block (Some b) h = h
 
 -- the last frame was not after the last progress, so not after this block
-last_by : (block : ℕ) (s t : Since) → NotAfter s t → ByBlock block t → NotAfter s (Block block)
-last_by block Never t h k = tt
-last_by block (Block a) Never h k = absurd h
-last_by block (Block a) (Block b) h k = omega arith
+last_by : (block : ℕ) (s t : Option ℕ) → NotAfter s t → ByBlock block t → NotAfter s (Some block)
+last_by block None t h k = tt
+last_by block (Some a) None h k = absurd h
+last_by block (Some a) (Some b) h k = omega arith
 
 -- ---- sets
 

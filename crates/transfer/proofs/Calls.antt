@@ -2,32 +2,38 @@
 use mathlib.Core.Path.{◌≡◌, refl, sym, ap, subst, ◌∙◌}
 use mathlib.Core.Logic.{◌≢◌, ◌⊎◌, inl, inr, ⊎_elim, ◌↔◌}
 use mathlib.Core.Bool.{Bool, true, false, ◌||◌}
-use mathlib.Core.List.{[], ◌∷◌}
-use mathlib.Core.Option.{Option, none, some}
-use Prim.Native.Nat.{ℕ, suc, ◌<◌}
+use mathlib.Core.List.{List, [], ◌∷◌}
+use Rattle.std.specs.Prelude.{Option, None, Some}
+use Prim.Native.Nat.{ℕ, suc, ◌+◌, ◌<◌, ◌≤◌}
 use native.Mathlib.Omega.{arith}
 use lib.Dec.{ltb}
 use lib.ListN.{length, get_or}
-use Rattle.token.specs.Token.{fewer_than}
+use Rattle.token.specs.Token.{stop, fewer_than}
 use Rattle.spach.specs.Refusal.{Outcome, gives, refuses, refuse, onward}
 use Rattle.transfer.specs.declared.Error.TheVariants.{EchoExhausted}
 use Rattle.transfer.specs.declared.Event.TheVariants.{Failed}
 use Rattle.transfer.specs.declared.Fate.TheVariants.{Restarts}
+use Rattle.transfer.specs.declared.FrameToken.{FrameToken}
+use Rattle.transfer.specs.declared.Request.{Request}
 use Rattle.transfer.specs.declared.Transfer.{Transfer}
 use Rattle.transfer.specs.Lists.{remove_at, push_back}
 use Rattle.transfer.specs.Queue.{has}
-use Rattle.transfer.specs.State.{View, Lent, with_clock, with_transfers, with_selected, short, admitted, says, blank_transfer, put_at, ended}
-use Rattle.transfer.specs.Echo.{free_echo}
-use Rattle.transfer.specs.Transfer.{went_out}
-use Rattle.transfer.specs.Advance.{restart, landed, walked, advance_of}
-use Rattle.transfer.specs.Prepare.{repeated, only_echo}
-use Rattle.transfer.specs.Submitted.{confirm_frame}
+use Rattle.transfer.specs.State.{View, Lent, with_clock, with_transfers, with_echoes, with_selected, token_taken, short, admitted, says, blank_transfer, put_at, ended, cancel_at}
+use Rattle.transfer.specs.Echo.{free_echo, held_until, hold}
+use Rattle.transfer.specs.Transfer.{went_out, begun}
+use Rattle.transfer.specs.Advance.{kept, restart, landed, walk, walked, advance_of}
+use Rattle.transfer.specs.Cancel.{cancel_all_of}
+use Rattle.transfer.specs.Enqueue.{Grant, addressed, grant_of, lowest_n, parcel_of, accepts}
+use Rattle.transfer.specs.Prepare.{repeated, only_echo, choose}
+use Rattle.transfer.specs.Refresh.{refreshed, queue_waiting, serve_oldest}
+use Rattle.transfer.specs.Submitted.{in_flight_lem, confirm_frame, submitted_at}
 use Rattle.transfer.specs.Status.{observes}
-use Rattle.transfer.specs.Invariant.{Sound}
-use Rattle.transfer.proofs.Listed.{length_back}
+use Rattle.transfer.specs.Invariant.{All, Sound}
+use Rattle.transfer.proofs.Listed.{all_map, length_back}
 use Rattle.transfer.proofs.EchoSearch.{none_free}
-use Rattle.transfer.proofs.Invariant.{Keeps, repeated_keeps, confirmed_keeps, observed_keeps, admitted-kept, admitted_tokens}
-use Rattle.transfer.proofs.Moves.{drops, move_kept, only-echo, front_move, put_move, walked-kept}
+use Rattle.transfer.proofs.Invariant.{Keeps, repeated_keeps, refreshed_keeps, confirmed_keeps, observed_keeps, in_flight_keeps, cancel_kept, welcomes, welcomes_instead, welcomed_kept, seek_cases, submit_cases, grant_passes, admitted-kept, admitted_tokens}
+use Rattle.transfer.proofs.Walked.{transfers_of}
+use Rattle.transfer.proofs.Moves.{drops, move_kept, moves-kept, each_of, only-echo, old, walk-moves, put_move, front_move, back_move, map-moves, all_moves, choose-moves, oldest_first_moves, room-each, walked-kept}
 
 -- ---- parts of calls that keep `Sound`
 
@@ -49,6 +55,51 @@ put-confirmed-kept v place frame x lt e low h = let y = confirm_frame frame x in
 -- the transfer at a place, whose Begin went out, observes a map
 pub put-observed-kept : (v : View) (place map : ℕ) (x : Transfer) → place < length v.transfers → x ≡ get_or v.transfers place blank_transfer → has (went_out x) 0 ≡ true → Sound v → Sound (put_at v place (observes map v.clock.last_block x))
 put-observed-kept v place map x lt e begun h = let y = observes map v.clock.last_block x in move_kept (put_move {octets = []} {first = 0} v place y lt (subst (Keeps v y) e (observed_keeps v x map begun))) h
+
+-- the transfer at a place goes to the front, as another that stands for it
+pub fronted-kept : (v : View) (place : ℕ) (y : Transfer) → place < length v.transfers → Keeps v y (get_or v.transfers place blank_transfer) → Sound v → Sound (with_transfers v (y ∷ remove_at place v.transfers))
+fronted-kept v place y lt k h = move_kept (front_move {octets = []} {first = 0} v place y lt k) h
+
+-- a walk, whichever restarts are asked for, while a token is left for each transfer
+pub walk-kept : (v : View) (l : List (Bool × Transfer)) → transfers_of l ≡ v.transfers → 128 + v.next_token ≤ stop → Sound v → Sound (walk v l)
+walk-kept v l e room h = moves-kept (walk-moves {octets = []} v l e (room-each v h room) (all_map (λ p o. inl o) (each_of l (subst (All (λ x. x.generation.0 < v.next_token)) (sym e) (old v h))))) h
+
+-- what `prepare` does after its `advance`
+pub choose-kept : (v : View) (octets : List ℕ) → v.next_token < stop → Sound v → Sound (choose v octets).state
+choose-kept v octets room h = moves-kept (choose-moves {octets = octets} {first = 0} v room) h
+
+-- both halves of `refresh_waiting`
+pub queue_waiting-kept : (v : View) → Sound v → Sound (queue_waiting v)
+unfolding queue_waiting
+queue_waiting-kept v h = let block = v.clock.last_block in moves-kept (map-moves {octets = []} {first = 0} (refreshed block) v (refreshed_keeps v) [] v.transfers) h
+
+pub serve_oldest-kept : (v : View) → Sound v → Sound (serve_oldest v)
+unfolding serve_oldest
+serve_oldest-kept v h = moves-kept (oldest_first_moves {octets = []} {first = 0} v v.selected) h
+
+-- all are Cancelled
+pub cancel_all-kept : (v : View) → Sound v → Sound (cancel_all_of v)
+unfolding cancel_all_of
+cancel_all-kept v h = moves-kept (all_moves {octets = []} v.transfers v (old v h)) h
+
+-- what `submitted` does at the moved clock
+pub submitted_at-kept : (v : View) (m : Lent) (t : FrameToken) → Sound v → Sound (submitted_at v m t).sender
+submitted_at-kept v m t h =
+    submit_cases (λ o. Sound o.sender) v m t h
+    (λ i lt q. let u = with_selected v None in
+    let x = get_or v.transfers i blank_transfer in
+    move_kept (back_move {octets = []} {first = 0} u i (in_flight_lem t.frame v.clock.last_block x) lt (in_flight_keeps u x t.frame refl q)) (move_kept {octets = []} {first = 0} (drops None (inl refl)) h))
+
+-- a request that passes is accepted
+pub accepts-kept : (v : View) (m : Lent) (r : Request) (message : List ℕ) (g : Grant) → grant_of v r message ≡ gives g → v.next_token < stop → Sound v → Sound (accepts v m r message g).sender
+unfolding accepts
+accepts-kept v m r message g e room h =
+    let p = grant_passes v r message e in
+    let u = with_echoes v (hold v.echoes g.echo (held_until v.limits r.deadline_ms)) in
+    seek_cases {X = View} (λ x. Sound (kept (token_taken x) (begun (parcel_of r message g.frames (lowest_n x.transfers) v.next_token) g.echo v.next_token)))
+    (addressed r.identity) v.transfers u (cancel_at u)
+    (λ n. welcomed_kept v r message g (welcomes v r message g p room h n) h)
+    (λ i lt z. welcomed_kept (cancel_at v i (get_or v.transfers i blank_transfer)) r message g (welcomes_instead v r message g p room h i lt z) (cancel_kept v i lt h))
 
 -- ---- what `advance` says
 
@@ -85,7 +136,7 @@ advance_never v m block now =
 -- ---- a restart
 
 -- with no echo free the transfer is Failed
-pub restart_fails : (v : View) (x : Transfer) → free_echo v.echoes v.clock.last_ms ≡ none → landed v x Restarts ≡ ended v x (Failed x.parcel.completion EchoExhausted)
+pub restart_fails : (v : View) (x : Transfer) → free_echo v.echoes v.clock.last_ms ≡ None → landed v x Restarts ≡ ended v x (Failed x.parcel.completion EchoExhausted)
 restart_fails v x e = ap (restart v x) e
 
 -- a restart is Failed exactly if each of the 128 echoes is held until later
@@ -93,12 +144,12 @@ pub restart_fails_exactly : (v : View) (x : Transfer) → length v.echoes.echo_u
     → ((landed v x Restarts).events ≡ push_back v.events (Failed x.parcel.completion EchoExhausted)) ↔ ((k : ℕ) → k < 128 → v.clock.last_ms < get_or v.echoes.echo_until_ms k 0)
 restart_fails_exactly v x long low = ((λ q. n.0 (go (free_echo v.echoes v.clock.last_ms) q)), (λ k. ap (λ (w : View). w.events) (restart_fails v x (n.1 k))))
   where
-    n : (free_echo v.echoes v.clock.last_ms ≡ none) ↔ ((k : ℕ) → k < 128 → v.clock.last_ms < get_or v.echoes.echo_until_ms k 0)
+    n : (free_echo v.echoes v.clock.last_ms ≡ None) ↔ ((k : ℕ) → k < 128 → v.clock.last_ms < get_or v.echoes.echo_until_ms k 0)
     n = none_free v.echoes long low v.clock.last_ms
 
-    go : (o : Option ℕ) → (restart v x o).events ≡ push_back v.events (Failed x.parcel.completion EchoExhausted) → o ≡ none
-    go none q = refl
-    go (some echo) q =
+    go : (o : Option ℕ) → (restart v x o).events ≡ push_back v.events (Failed x.parcel.completion EchoExhausted) → o ≡ None
+    go None q = refl
+    go (Some echo) q =
         let l : length (push_back v.events (Failed x.parcel.completion EchoExhausted)) ≡ suc (length v.events) = length_back v.events (Failed x.parcel.completion EchoExhausted) in
         let m : length v.events ≡ length (push_back v.events (Failed x.parcel.completion EchoExhausted)) = ap length q in
         absurd (omega arith)

@@ -2,7 +2,7 @@
 use mathlib.Core.Path.{◌≡◌, sym, subst}
 use mathlib.Core.Logic.{⊎_elim}
 use mathlib.Core.List.{List, ◌∷◌, ◌++◌}
-use mathlib.Core.Option.{Option, none, some}
+use Rattle.std.specs.Prelude.{Option, None, Some}
 use Prim.Native.Nat.{ℕ}
 use lib.Dec.{eqb}
 use borrow.Author.Tests.{eqb-false}
@@ -14,7 +14,7 @@ use Rattle.transfer.specs.declared.PreparedFrame.{PreparedFrame}
 use Rattle.transfer.specs.State.{View, unselect}
 use Rattle.transfer.specs.Transfer.{begun}
 use Rattle.transfer.specs.Prepare.{front_of, prepared_of}
-use Rattle.transfer.specs.Invariant.{All, Some}
+use Rattle.transfer.specs.Invariant.{All, Any}
 use Rattle.transfer.proofs.Listed.{all_one, all_rest, all_in, some_out, some_one, some_in}
 use Rattle.transfer.proofs.Alive.{SameParcel}
 use Rattle.transfer.proofs.Invariant.{cond_cases}
@@ -33,8 +33,8 @@ module _ (fact : Lasting) where
 
   -- a selected frame is some transfer's
   abbrev pub Drawn : List Transfer → Option PreparedFrame → Type 0
-  Drawn l none = Unit
-  Drawn l (some f) = Some (fact.Framed f) l
+  Drawn l None = Unit
+  Drawn l (Some f) = Any (fact.Framed f) l
 
   -- and each transfer's parcel is such
   abbrev pub Right : List Transfer → Option PreparedFrame → Type 0
@@ -49,9 +49,9 @@ module _ (fact : Lasting) where
   right_out a x b s h = (all_rest a x b h.0, go s h.1)
     where
       go : (s : Option PreparedFrame) → Drawn (a ++ x ∷ b) s → Drawn (a ++ b) (unselect x.generation s)
-      go none k = tt
-      go (some f) k =
-          cond_cases {X = Option PreparedFrame} (Drawn (a ++ b)) (eqb f.token.generation.0 x.generation.0) none (some f) (λ e. tt)
+      go None k = tt
+      go (Some f) k =
+          cond_cases {X = Option PreparedFrame} (Drawn (a ++ b)) (eqb f.token.generation.0 x.generation.0) None (Some f) (λ e. tt)
           (λ e. ⊎_elim (λ (d : fact.Framed f x). absurd (eqb-false _ _ e (fact.own f x d))) (λ r. r) (some_out a x b k))
 
   -- one is put in
@@ -59,16 +59,16 @@ module _ (fact : Lasting) where
   right_in a y b s q h = (all_in a y b q h.0, go s h.1)
     where
       go : (s : Option PreparedFrame) → Drawn (a ++ b) s → Drawn (a ++ y ∷ b) s
-      go none k = tt
-      go (some f) k = some_in a y b k
+      go None k = tt
+      go (Some f) k = some_in a y b k
 
   -- y stands for x, of the same parcel, generation and echo, among the others
   right_moved : (a : List Transfer) (x : Transfer) (b c : List Transfer) (y : Transfer) (d : List Transfer) (s : Option PreparedFrame) → c ++ d ≡ a ++ b → SameParcel y x → Right (a ++ x ∷ b) s → Right (c ++ y ∷ d) s
   right_moved a x b c y d s e p h = (all_in c y d (subst fact.Parcelled (sym p.0) (all_one a x b h.0)) (subst (All (λ z. fact.Parcelled z.parcel)) (sym e) (all_rest a x b h.0)), go s h.1)
     where
       go : (s : Option PreparedFrame) → Drawn (a ++ x ∷ b) s → Drawn (c ++ y ∷ d) s
-      go none k = tt
-      go (some f) k = ⊎_elim (λ (r : fact.Framed f x). some_one c y d (fact.like f x y p r)) (λ r. some_in c y d (subst (Some (fact.Framed f)) (sym e) r)) (some_out a x b k)
+      go None k = tt
+      go (Some f) k = ⊎_elim (λ (r : fact.Framed f x). some_one c y d (fact.like f x y p r)) (λ r. some_in c y d (subst (Any (fact.Framed f)) (sym e) r)) (some_out a x b k)
 
   -- ---- the moves
 
@@ -76,7 +76,7 @@ module _ (fact : Lasting) where
     -- each
     move_carries : {first : ℕ} {v w : View} → Move octets first v w → Carries v → Carries w
     move_carries {v = v} (drops s e) h = (h.0, ⊎_elim (λ q. subst (Drawn v.transfers) (sym q) tt) (λ q. subst (Drawn v.transfers) (sym q) h.1) e)
-    move_carries {v = v} (picks a b x p e r room q) h = (h.0, subst (Some (fact.Framed (prepared_of x p v.next_token))) (sym e) (some_one a x b (front-drawn x p v.next_token q)))
+    move_carries {v = v} (picks a b x p e r room q) h = (h.0, subst (Any (fact.Framed (prepared_of x p v.next_token))) (sym e) (some_one a x b (front-drawn x p v.next_token q)))
     move_carries {v = v} (shifts a b c d x y e q s) h = right_moved a x b c y d v.selected q s.same (subst (λ l. Right l v.selected) e h)
     move_carries {v = v} (restarts a b x echo e old due room q) h =
         let k = subst (λ l. Right l v.selected) e h in

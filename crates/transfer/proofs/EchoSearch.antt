@@ -3,7 +3,7 @@ use mathlib.Core.Path.{◌≡◌, refl, sym, ap, ◌∙◌}
 use mathlib.Core.Logic.{◌↔◌}
 use mathlib.Core.Bool.{Bool, true, false, cond}
 use mathlib.Core.List.{List}
-use mathlib.Core.Option.{none, some}
+use Rattle.std.specs.Prelude.{None, Some}
 use Prim.Native.Nat.{ℕ, ◌+◌, ◌-◌, ◌≤◌, ◌<◌, ◌%◌}
 use native.Mathlib.Numerals.{add-one}
 use native.Mathlib.Omega.{arith}
@@ -34,7 +34,7 @@ module _ (u : List ℕ) (next : ℕ) (long : length u ≡ 128) (low : next < 128
   abbrev echoes : Echoes
   echoes = record { echo_until_ms = u; next_echo = next }
 
-  around_long : length (around echoes) ≡ 128
+  pub around_long : length (around echoes) ≡ 128
   around_long = simp (length-append, length-drop, length-take) (omega arith)
 
   around_at : (k : ℕ) → k < 128 → get_or (around echoes) k 0 ≡ get_or u ((next + k) % 128) 0
@@ -59,7 +59,7 @@ module _ (u : List ℕ) (next : ℕ) (long : length u ≡ 128) (low : next < 128
 
   module _ (now k : ℕ) (e : position (free now) (around echoes) ≡ position_from (free now) (around echoes) 0 k) where
     -- the echo at k is free: the search ends with it
-    pub around_here : k < 128 → get_or u ((next + k) % 128) 0 ≤ now → some ((next + k) % 128) ≡ free_echo echoes now
+    pub around_here : k < 128 → get_or u ((next + k) % 128) 0 ≤ now → Some ((next + k) % 128) ≡ free_echo echoes now
     unfolding free_echo
     around_here h f =
         let len = around_long in
@@ -75,14 +75,14 @@ module _ (u : List ℕ) (next : ℕ) (long : length u ≡ 128) (low : next < 128
         e ∙ position_next (free now) (around echoes) 0 k (omega arith) (rw at (lt-leb _ _ f))
 
     -- the search has gone round: none is free
-    pub around_none : 128 ≤ k → none ≡ free_echo echoes now
+    pub around_none : 128 ≤ k → None ≡ free_echo echoes now
     unfolding free_echo
     around_none h =
         let len = around_long in
         let gone : position (free now) (around echoes) ≡ k = e ∙ position_end (free now) (around echoes) 0 k (omega arith) in
         rw (gone, le-ltb k 128 h)
 
-some-none : {n : ℕ} → some n ≡ none → ⊥
+some-none : {n : ℕ} → Some n ≡ None → ⊥
 some-none q = let z : ◌≡◌ {A = ℕ} 0 1 = cc in omega arith
 
 module _ (e : Echoes) (long : length e.echo_until_ms ≡ 128) where
@@ -106,11 +106,11 @@ module _ (e : Echoes) (long : length e.echo_until_ms ≡ 128) where
         leb-false _ _ (ap (free now) (sym (at ∙ ap (λ (i : ℕ). get_or e.echo_until_ms i 0) back)) ∙ f)
 
     -- an echo is taken only if it is held until now or earlier
-    pub free_now : {echo : ℕ} → free_echo e now ≡ some echo → (echo < 128) × (get_or e.echo_until_ms echo 0 ≤ now)
+    pub free_now : {echo : ℕ} → free_echo e now ≡ Some echo → (echo < 128) × (get_or e.echo_until_ms echo 0 ≤ now)
     unfolding free_echo
     free_now {echo} q = go (ltb offset 128) refl q
       where
-        go : (b : Bool) → ltb offset 128 ≡ b → cond b (some ((e.next_echo + offset) % 128)) none ≡ some echo → (echo < 128) × (get_or e.echo_until_ms echo 0 ≤ now)
+        go : (b : Bool) → ltb offset 128 ≡ b → cond b (Some ((e.next_echo + offset) % 128)) None ≡ Some echo → (echo < 128) × (get_or e.echo_until_ms echo 0 ≤ now)
         go true t q =
             let r : (e.next_echo + offset) % 128 ≡ echo = cc in
             let f = found (ltb-true _ _ t) in
@@ -124,13 +124,13 @@ module _ (e : Echoes) (long : length e.echo_until_ms ≡ 128) where
         leb-false _ _ (ap (free now) (sym at) ∙ position_before (free now) 0 (around e) nearer m)
 
     -- the echo that is taken is the free one at the least distance from `next_echo`, upwards and going round
-    pub free_least : {echo : ℕ} → free_echo e now ≡ some echo
+    pub free_least : {echo : ℕ} → free_echo e now ≡ Some echo
         → (distance : ℕ) × (distance < 128) × (echo ≡ (e.next_echo + distance) % 128) × (get_or e.echo_until_ms echo 0 ≤ now)
         × ((nearer : ℕ) → nearer < distance → now < get_or e.echo_until_ms ((e.next_echo + nearer) % 128) 0)
     unfolding free_echo
     free_least {echo} q = go (ltb offset 128) refl q
       where
-        go : (b : Bool) → ltb offset 128 ≡ b → cond b (some ((e.next_echo + offset) % 128)) none ≡ some echo
+        go : (b : Bool) → ltb offset 128 ≡ b → cond b (Some ((e.next_echo + offset) % 128)) None ≡ Some echo
             → (distance : ℕ) × (distance < 128) × (echo ≡ (e.next_echo + distance) % 128) × (get_or e.echo_until_ms echo 0 ≤ now)
             × ((nearer : ℕ) → nearer < distance → now < get_or e.echo_until_ms ((e.next_echo + nearer) % 128) 0)
         go true t q =
@@ -141,15 +141,15 @@ module _ (e : Echoes) (long : length e.echo_until_ms ≡ 128) where
         go false t q = absurd (some-none (sym q))
 
     -- none is free exactly if every echo is held until later
-    pub none_free : (free_echo e now ≡ none) ↔ ((k : ℕ) → k < 128 → now < get_or e.echo_until_ms k 0)
+    pub none_free : (free_echo e now ≡ None) ↔ ((k : ℕ) → k < 128 → now < get_or e.echo_until_ms k 0)
     unfolding free_echo
     none_free = ((λ q. go (ltb offset 128) refl q), (λ f. back f (ltb offset 128) refl))
       where
-        go : (b : Bool) → ltb offset 128 ≡ b → cond b (some ((e.next_echo + offset) % 128)) none ≡ none → (k : ℕ) → k < 128 → now < get_or e.echo_until_ms k 0
+        go : (b : Bool) → ltb offset 128 ≡ b → cond b (Some ((e.next_echo + offset) % 128)) None ≡ None → (k : ℕ) → k < 128 → now < get_or e.echo_until_ms k 0
         go true t q = absurd (some-none q)
         go false t q = in_vain (ltb-false _ _ t)
 
-        back : ((k : ℕ) → k < 128 → now < get_or e.echo_until_ms k 0) → (b : Bool) → ltb offset 128 ≡ b → cond b (some ((e.next_echo + offset) % 128)) none ≡ none
+        back : ((k : ℕ) → k < 128 → now < get_or e.echo_until_ms k 0) → (b : Bool) → ltb offset 128 ≡ b → cond b (Some ((e.next_echo + offset) % 128)) None ≡ None
         back f true t =
             let held = f ((e.next_echo + offset) % 128) (omega arith) in
             let released = found (ltb-true _ _ t) in

@@ -4,7 +4,7 @@ use mathlib.Core.Path.{◌≡◌, refl, sym, ap, subst, ◌∙◌}
 use mathlib.Core.Logic.{◌≢◌, ◌⊎◌, inl, inr, ⊎_elim, ◌↔◌}
 use mathlib.Core.Bool.{Bool, true, false, cond, not, ◌&&◌, ◌||◌}
 use mathlib.Core.List.{List, [], ◌∷◌, ◌++◌, map}
-use mathlib.Core.Option.{Option, none, some}
+use Rattle.std.specs.Prelude.{Option, None, Some}
 use Prim.Native.Nat.{ℕ, zero, suc, ◌+◌, ◌-◌, ◌*◌, ◌≤◌, ◌<◌, ◌^◌}
 use native.Mathlib.Omega.{arith}
 use lib.Dec.{eqb, leb, ltb}
@@ -26,8 +26,6 @@ use Rattle.arq.specs.Encode.{encode_of}
 use Rattle.transfer.specs.declared.FrameToken.{FrameToken}
 use Rattle.transfer.specs.declared.Generation.{Generation}
 use Rattle.transfer.specs.declared.Parcel.{Parcel}
-use Rattle.transfer.specs.declared.Since.{Since}
-use Rattle.transfer.specs.declared.Since.TheVariants.{Never, Block}
 use Rattle.transfer.specs.declared.Transfer.{Transfer}
 use Rattle.transfer.specs.declared.PreparedFrame.{PreparedFrame}
 use Rattle.transfer.specs.declared.Request.{Request}
@@ -43,7 +41,7 @@ use Rattle.transfer.specs.Submitted.{matches, is_selected, in_flight_lem, is_out
 use Rattle.transfer.specs.Status.{shown, observes}
 use Rattle.transfer.specs.Refresh.{refreshed, queue_waiting, blocks_since, age_of, oldest_from, oldest, to_front, oldest_first, serve_oldest}
 use Rattle.transfer.specs.Queries.{can_enqueue_of, radio_active_of, ready_of, contains_of, pending_of}
-use Rattle.transfer.specs.Invariant.{All, Some, Sound}
+use Rattle.transfer.specs.Invariant.{All, Any, Sound}
 use Rattle.transfer.proofs.Bitsets.{bit_none, bit_first, below_bits, bit_lacks, has_or, has_and, has_alone, has_added, has-without}
 use Rattle.transfer.proofs.Frames.{has-continues, has_firsts}
 use Rattle.transfer.proofs.Listed.{all_head, some-map, some_all, any-true, any_false, position-found, position_before}
@@ -76,17 +74,17 @@ below_exactly a b = (ltb-true a b, lt-ltb a b)
 -- ---- blocks
 
 -- a block is there, and at least so many have passed since
-abbrev pub Since≥ : (limit block : ℕ) → Since → Type 0
-Since≥ limit block s = (b : ℕ) × (s ≡ Block b) × (limit ≤ block - b)
+abbrev pub Since≥ : (limit block : ℕ) → Option ℕ → Type 0
+Since≥ limit block s = (b : ℕ) × (s ≡ Some b) × (limit ≤ block - b)
 
-passed_since : (limit block : ℕ) (s : Since) → (passed limit block s ≡ true) ↔ Since≥ limit block s
-passed_since limit block Never = ((λ e. absurd (true_false {x = false} e refl)), (λ h. let q : Never ≡ Block h.0 = h.1 in let z : ◌≡◌ {A = ℕ} 0 1 = cc in absurd (omega arith)))
-passed_since limit block (Block b) = (
+passed_since : (limit block : ℕ) (s : Option ℕ) → (passed limit block s ≡ true) ↔ Since≥ limit block s
+passed_since limit block None = ((λ e. absurd (true_false {x = false} e refl)), (λ h. let q : None ≡ Some h.0 = h.1 in let z : ◌≡◌ {A = ℕ} 0 1 = cc in absurd (omega arith)))
+passed_since limit block (Some b) = (
   (λ e. (b, refl, leb-true limit (block - b) e)),
   (λ h. let q : b ≡ h.0 = same h.1 in le-leb limit (block - b) (subst (λ (n : ℕ). limit ≤ block - n) (sym q) h.2)),
 )
   where
-    same : {m n : ℕ} → Block m ≡ Block n → m ≡ n
+    same : {m n : ℕ} → Some m ≡ Some n → m ≡ n
     same e = cc
 
 -- a restart is due exactly 64 blocks after the last progress or after waiting began
@@ -108,7 +106,7 @@ SameOrder x y = (y.parcel ≡ x.parcel) × (y.generation ≡ x.generation) × (y
 pub requeues_exactly : (block : ℕ) (x : Transfer) → x.sets.queue ≡ 0 → x.sets.in_flight ≡ 0 → done_of x ≡ false → x.sets.received_status ≡ true → let y = settle_of block x in
     ((k : ℕ) → has y.sets.queue k ≡ ((ltb 0 k && ltb k x.parcel.frames) && not (has x.sets.observed k)))
     × (y.sets.in_flight ≡ x.sets.in_flight) × (y.sets.transmitted ≡ x.sets.transmitted) × (y.sets.observed ≡ x.sets.observed) × (y.sets.received_status ≡ false)
-    × (y.blocks.last_progress ≡ x.blocks.last_progress) × (y.blocks.last_frame ≡ x.blocks.last_frame) × (y.blocks.waiting_since ≡ Never) × SameOrder x y
+    × (y.blocks.last_progress ≡ x.blocks.last_progress) × (y.blocks.last_frame ≡ x.blocks.last_frame) × (y.blocks.waiting_since ≡ None) × SameOrder x y
 unfolding settle_of
 requeues_exactly block x q f d s =
     let i : idle x ≡ true = rw (q, f) refl in
@@ -154,7 +152,7 @@ done_exactly x =
 -- without a status it waits, from this block on unless it does so already, and nothing else is another
 pub waits_exactly : (block : ℕ) (x : Transfer) → x.sets.queue ≡ 0 → x.sets.in_flight ≡ 0 → x.sets.received_status ≡ false → let y = settle_of block x in
     (y.sets ≡ x.sets) × SameOrder x y × (y.blocks.last_progress ≡ x.blocks.last_progress) × (y.blocks.last_frame ≡ x.blocks.last_frame)
-    × (((x.blocks.waiting_since ≡ Never) × (y.blocks.waiting_since ≡ Block block)) ⊎ ((b : ℕ) × (x.blocks.waiting_since ≡ Block b) × (y.blocks.waiting_since ≡ Block b)))
+    × (((x.blocks.waiting_since ≡ None) × (y.blocks.waiting_since ≡ Some block)) ⊎ ((b : ℕ) × (x.blocks.waiting_since ≡ Some b) × (y.blocks.waiting_since ≡ Some b)))
 unfolding settle_of done_of
 waits_exactly block x q f s =
     let i : idle x ≡ true = rw (q, f) refl in
@@ -162,16 +160,16 @@ waits_exactly block x q f s =
     let e : settle_of block x ≡ waits block x = pick_false x (cond x.sets.received_status (requeued x) (waits block x)) d ∙ pick_false (requeued x) (waits block x) s in
     (ap (λ (y : Transfer). y.sets) e, (ap (λ (y : Transfer). y.parcel) e, ap (λ (y : Transfer). y.generation) e, ap (λ (y : Transfer). y.echo) e), ap (λ (y : Transfer). y.blocks.last_progress) e, ap (λ (y : Transfer). y.blocks.last_frame) e, go x.blocks.waiting_since (ap (λ (y : Transfer). y.blocks.waiting_since) e))
   where
-    go : (w : Since) {n : Since} → n ≡ or_from block w → ((w ≡ Never) × (n ≡ Block block)) ⊎ ((b : ℕ) × (w ≡ Block b) × (n ≡ Block b))
-    go Never e = inl (refl, e)
-    go (Block b) e = inr (b, refl, e)
+    go : (w : Option ℕ) {n : Option ℕ} → n ≡ or_from block w → ((w ≡ None) × (n ≡ Some block)) ⊎ ((b : ℕ) × (w ≡ Some b) × (n ≡ Some b))
+    go None e = inl (refl, e)
+    go (Some b) e = inr (b, refl, e)
 
 -- ---- a transfer begins, and begins again
 
 -- under this echo and generation every frame is queued, and nothing is left of before: so an age counts from a frame under the present echo
 pub begins_exactly : (p : Parcel) (echo generation : ℕ) → let y = begun p echo generation in
     (y.parcel ≡ p) × (y.echo ≡ echo) × (y.generation.0 ≡ generation) × ((k : ℕ) → has y.sets.queue k ≡ ltb k p.frames) × (y.sets.in_flight ≡ 0) × (y.sets.transmitted ≡ 0) × (y.sets.observed ≡ 0) × (y.sets.received_status ≡ false)
-    × (y.blocks.last_progress ≡ Never) × (y.blocks.last_frame ≡ Never) × (y.blocks.waiting_since ≡ Never)
+    × (y.blocks.last_progress ≡ None) × (y.blocks.last_frame ≡ None) × (y.blocks.waiting_since ≡ None)
 begins_exactly p echo generation = (refl, refl, refl, has_firsts p.frames, refl, refl, refl, refl, refl, refl, refl)
 
 -- what `enqueue` makes of a request: identity, completion, deadline and channel are the request's, in full
@@ -181,7 +179,7 @@ pub parcel_exactly : (r : Request) (message : List ℕ) (frames n owner : ℕ) �
 parcel_exactly r message frames n owner = (refl, refl, refl, refl, refl, refl, refl, refl)
 
 -- a restart with a free echo leaves exactly that, behind those before it in the list
-pub restarts_exactly : (v : View) (x : Transfer) (echo : ℕ) → (restart v x (some echo)).transfers ≡ push_back v.transfers (begun x.parcel echo v.next_token)
+pub restarts_exactly : (v : View) (x : Transfer) (echo : ℕ) → (restart v x (Some echo)).transfers ≡ push_back v.transfers (begun x.parcel echo v.next_token)
 restarts_exactly v x echo = refl
 
 -- ---- the last frame queued again
@@ -219,12 +217,12 @@ pub refreshed_exactly : (block : ℕ) (x : Transfer)
 refreshed_exactly block x = either x (last_queued x) (idle x) (passed 16 block x.blocks.last_frame) (idle_exactly x) (passed_since 16 block x.blocks.last_frame) (last_again x)
 
 -- a block is there
-abbrev pub AnyBlock : Since → Type 0
-AnyBlock s = (b : ℕ) × (s ≡ Block b)
+abbrev pub AnyBlock : Option ℕ → Type 0
+AnyBlock s = (b : ℕ) × (s ≡ Some b)
 
-set_exactly : (s : Since) → (is_set s ≡ true) ↔ AnyBlock s
-set_exactly Never = ((λ e. absurd (true_false {x = false} e refl)), (λ h. let q : Never ≡ Block h.0 = h.1 in let z : ◌≡◌ {A = ℕ} 0 1 = cc in absurd (omega arith)))
-set_exactly (Block b) = ((λ e. (b, refl)), (λ h. refl))
+set_exactly : (s : Option ℕ) → (is_set s ≡ true) ↔ AnyBlock s
+set_exactly None = ((λ e. absurd (true_false {x = false} e refl)), (λ h. let q : None ≡ Some h.0 = h.1 in let z : ◌≡◌ {A = ℕ} 0 1 = cc in absurd (omega arith)))
+set_exactly (Some b) = ((λ e. (b, refl)), (λ h. refl))
 
 -- `prepare_prioritized` does so exactly if none is queued or in flight and one was submitted, however many frames there are
 pub repeated_exactly : (x : Transfer)
@@ -236,7 +234,7 @@ repeated_exactly x = either x (last_queued x) (idle x) (is_set x.blocks.last_fra
 -- a frame is queued, and so many blocks have passed since the last was submitted, 16 at least
 pub record Aged (block : ℕ) (x : Transfer) (age : ℕ) : Type 0 where
   pub queued : x.sets.queue ≢ 0
-  pub since : (b : ℕ) × (x.blocks.last_frame ≡ Block b) × (age ≡ block - b)
+  pub since : (b : ℕ) × (x.blocks.last_frame ≡ Some b) × (age ≡ block - b)
   pub long : 16 ≤ age
 
 -- the transfer at a place is so old, none is older, and none behind it as old
@@ -255,9 +253,9 @@ aged_age block x a h =
 age_aged : (block : ℕ) (x : Transfer) → 16 ≤ age_of block x → Aged block x (age_of block x)
 age_aged block x h = go (is_ready x) x.blocks.last_frame refl refl h
   where
-    go : (r : Bool) (s : Since) → is_ready x ≡ r → x.blocks.last_frame ≡ s → 16 ≤ cond r (blocks_since block s) 0 → Aged block x (age_of block x)
-    go true Never e q h = absurd (omega arith)
-    go true (Block b) e q h =
+    go : (r : Bool) (s : Option ℕ) → is_ready x ≡ r → x.blocks.last_frame ≡ s → 16 ≤ cond r (blocks_since block s) 0 → Aged block x (age_of block x)
+    go true None e q h = absurd (omega arith)
+    go true (Some b) e q h =
         let n : age_of block x ≡ block - b = pick_true (blocks_since block x.blocks.last_frame) 0 e ∙ ap (blocks_since block) q in
         record { queued = eqb-false x.sets.queue 0 (not-true (eqb x.sets.queue 0) e); since = (b, q, n); long = subst (λ (a : ℕ). 16 ≤ a) (sym n) h }
     go false s e q h = absurd (omega arith)
@@ -377,7 +375,7 @@ unfolding queue_waiting
 queues_waiting v = refl
 
 -- if no frame is selected, the transfer there goes to the front, and the others keep their order
-pub serves_exactly : (v : View) (i : ℕ) → v.selected ≡ none → let l = v.transfers in Eldest v.clock.last_block l i → serve_oldest v ≡ ordered v (get_or l i blank_transfer ∷ (take i l ++ drop (suc i) l))
+pub serves_exactly : (v : View) (i : ℕ) → v.selected ≡ None → let l = v.transfers in Eldest v.clock.last_block l i → serve_oldest v ≡ ordered v (get_or l i blank_transfer ∷ (take i l ++ drop (suc i) l))
 unfolding serve_oldest
 serves_exactly v i s h =
     let l = v.transfers in
@@ -386,7 +384,7 @@ serves_exactly v i s h =
     ap (oldest_first v) s ∙ ap (ordered v) (ap (λ (p : ℕ). to_front p l) e ∙ pick_true (get_or l i blank_transfer ∷ remove_at i l) l (lt-ltb i (length l) h.inside))
 
 -- if none is 16 blocks old, nothing changes
-pub serves_none : (v : View) → v.selected ≡ none → let l = v.transfers in ((j a : ℕ) → j < length l → Aged v.clock.last_block (get_or l j blank_transfer) a → ⊥) → serve_oldest v ≡ v
+pub serves_none : (v : View) → v.selected ≡ None → let l = v.transfers in ((j a : ℕ) → j < length l → Aged v.clock.last_block (get_or l j blank_transfer) a → ⊥) → serve_oldest v ≡ v
 unfolding serve_oldest
 serves_none v s h =
     let l = v.transfers in
@@ -395,7 +393,7 @@ serves_none v s h =
     ap (oldest_first v) s ∙ ap (ordered v) (ap (λ (p : ℕ). to_front p l) e ∙ pick_false (get_or l (length l) blank_transfer ∷ remove_at (length l) l) l (le-ltb (length l) (length l) (omega arith)))
 
 -- while a frame is selected, nothing changes
-pub serves_selected : (v : View) (f : PreparedFrame) → v.selected ≡ some f → serve_oldest v ≡ v
+pub serves_selected : (v : View) (f : PreparedFrame) → v.selected ≡ Some f → serve_oldest v ≡ v
 unfolding serve_oldest
 serves_selected v f s = ap (oldest_first v) s
 
@@ -419,8 +417,8 @@ packed_exactly x octets k polling = refl
 
 -- the frame of an answer, another where there is none
 abbrev frame_told : PreparedFrame → Outcome (Option PreparedFrame) → PreparedFrame
-frame_told d (gives (some f)) = f
-frame_told d (gives none) = d
+frame_told d (gives (Some f)) = f
+frame_told d (gives None) = d
 frame_told d (refuses n) = d
 
 -- the frame is the front of a transfer's queue, under its generation and echo
@@ -430,7 +428,7 @@ pub record FrontOf (x : Transfer) (f : PreparedFrame) : Type 0 where
   pub echo : f.partial_echo ≡ x.echo
   pub frame : f.token.frame ≡ front x.sets.queue
 
-selects-front : (v : View) (x : Transfer) (o : Outcome PackedFrame) (f : PreparedFrame) → is_ready x ≡ true → (selects v x o).outcome ≡ gives (some f) → FrontOf x f
+selects-front : (v : View) (x : Transfer) (o : Outcome PackedFrame) (f : PreparedFrame) → is_ready x ≡ true → (selects v x o).outcome ≡ gives (Some f) → FrontOf x f
 selects-front v x (gives p) f r e =
     let q : prepared_of x p v.next_token ≡ f = ap (frame_told f) e in
     record {
@@ -442,11 +440,11 @@ selects-front v x (gives p) f r e =
 selects-front v x (refuses n) f r e = let z : ◌≡◌ {A = ℕ} 0 1 = cc in absurd (omega arith)
 
 -- if none is selected, it is that of the first transfer in the list that has a frame queued
-pub serves_first : (v : View) (octets : List ℕ) (f : PreparedFrame) → v.selected ≡ none → (choose v octets).outcome ≡ gives (some f)
+pub serves_first : (v : View) (octets : List ℕ) (f : PreparedFrame) → v.selected ≡ None → (choose v octets).outcome ≡ gives (Some f)
     → (i : ℕ) × (i < length v.transfers) × FrontOf (get_or v.transfers i blank_transfer) f × ((j : ℕ) → j < i → (get_or v.transfers j blank_transfer).sets.queue ≡ 0)
 unfolding choose
 serves_first v octets f s e =
-    let q : (choose_from v octets none).outcome ≡ gives (some f) = sym (ap (λ (o : Option PreparedFrame). (choose_from v octets o).outcome) s) ∙ e in
+    let q : (choose_from v octets None).outcome ≡ gives (Some f) = sym (ap (λ (o : Option PreparedFrame). (choose_from v octets o).outcome) s) ∙ e in
     go (ltb (position is_ready v.transfers) (length v.transfers)) refl q
   where
     First : Type 0
@@ -456,7 +454,7 @@ serves_first v octets f s e =
     here = position is_ready v.transfers
 
     go : (t : Bool) → ltb (position is_ready v.transfers) (length v.transfers) ≡ t
-        → (cond t (selects v (get_or v.transfers (position is_ready v.transfers) blank_transfer) (front_of (get_or v.transfers (position is_ready v.transfers) blank_transfer) octets)) (says none v)).outcome ≡ gives (some f) → First
+        → (cond t (selects v (get_or v.transfers (position is_ready v.transfers) blank_transfer) (front_of (get_or v.transfers (position is_ready v.transfers) blank_transfer) octets)) (says None v)).outcome ≡ gives (Some f) → First
     go true l q =
         let x = get_or v.transfers here blank_transfer in
         let lt = ltb-true here (length v.transfers) l in
@@ -487,12 +485,12 @@ repeated_ready x = ⊎_elim again same (repeated_exactly x)
 
 -- after its `advance` it has a frame exactly if the first transfer of the echo has one queued, or has none in flight and submitted one before
 pub prioritize_gives_exactly : (v : View) (octets : List ℕ) (echo : ℕ) → 32640 ≤ length octets → Sound v → let i = position (of_echo echo) v.transfers in
-    i < length v.transfers → ((prioritize_at v octets echo).outcome ≢ gives none) ↔ Repeatable (get_or v.transfers i blank_transfer)
+    i < length v.transfers → ((prioritize_at v octets echo).outcome ≢ gives None) ↔ Repeatable (get_or v.transfers i blank_transfer)
 unfolding prioritize_at
 prioritize_gives_exactly v octets echo room h lt =
     let i = position (of_echo echo) v.transfers in
     let x = get_or v.transfers i blank_transfer in
-    let e : (prioritize_at v octets echo).outcome ≡ (prioritized v octets echo i x).outcome = ap (λ (a : After (Option PreparedFrame) View). a.outcome) (pick_true (prioritized v octets echo i x) (says none v) (lt-ltb i (length v.transfers) lt)) in
+    let e : (prioritize_at v octets echo).outcome ≡ (prioritized v octets echo i x).outcome = ap (λ (a : After (Option PreparedFrame) View). a.outcome) (pick_true (prioritized v octets echo i x) (says None v) (lt-ltb i (length v.transfers) lt)) in
     let k = go i x (is_ready (repeated x)) refl (prioritized-kept v i echo x lt refl h) in
     ((λ n. (repeated_ready x).0 (k.0 (λ q. n (e ∙ q)))), (λ r q. k.1 ((repeated_ready x).1 r) (sym e ∙ q)))
   where
@@ -500,20 +498,20 @@ prioritize_gives_exactly v octets echo room h lt =
     after i x = with_selected (with_transfers v (repeated x ∷ remove_at i v.transfers)) (only_echo echo v.selected)
 
     go : (i : ℕ) (x : Transfer) (t : Bool) → is_ready (repeated x) ≡ t → Sound (after i x)
-        → let a : After (Option PreparedFrame) View = cond t (choose (after i x) octets) (says none (after i x)) in (a.outcome ≢ gives none) ↔ (t ≡ true)
+        → let a : After (Option PreparedFrame) View = cond t (choose (after i x) octets) (says None (after i x)) in (a.outcome ≢ gives None) ↔ (t ≡ true)
     go i x true e s = ((λ n. refl), (λ r q. true_false e (all_head ((choose_none_exactly (after i x) octets room s).0 q).1)))
     go i x false e s = ((λ n. absurd (n refl)), (λ r. absurd (true_false {x = false} r refl)))
 
 -- ---- the place in the lent store
 
-lowest_each : (tries k : ℕ) (l : List Transfer) → ((j : ℕ) → j < k → Some (λ x. x.parcel.n ≡ j) l) → (j : ℕ) → j < lowest_from tries k l → Some (λ x. x.parcel.n ≡ j) l
+lowest_each : (tries k : ℕ) (l : List Transfer) → ((j : ℕ) → j < k → Any (λ x. x.parcel.n ≡ j) l) → (j : ℕ) → j < lowest_from tries k l → Any (λ x. x.parcel.n ≡ j) l
 lowest_each zero k l h j lt = h j lt
 lowest_each (suc tries) k l h j lt = go (any test l) refl lt (λ q m. lowest_each tries (suc k) l q j m)
   where
     test : Transfer → Bool
     test x = eqb x.parcel.n k
 
-    go : (b : Bool) → any test l ≡ b → j < cond b (lowest_from tries (suc k) l) k → (((i : ℕ) → i < suc k → Some (λ x. x.parcel.n ≡ i) l) → j < lowest_from tries (suc k) l → Some (λ x. x.parcel.n ≡ j) l) → Some (λ x. x.parcel.n ≡ j) l
+    go : (b : Bool) → any test l ≡ b → j < cond b (lowest_from tries (suc k) l) k → (((i : ℕ) → i < suc k → Any (λ x. x.parcel.n ≡ i) l) → j < lowest_from tries (suc k) l → Any (λ x. x.parcel.n ≡ j) l) → Any (λ x. x.parcel.n ≡ j) l
     go true e lt f =
         f
         (λ i m. ⊎_elim (λ q. h i (ltb-true i k q)) (λ q. let r = ltb-false i k q in let w : k ≡ i = omega arith in some-map (λ x t. eqb-true x.parcel.n k t ∙ w) (any-true test l e)) (by_bool (ltb i k)))
@@ -521,7 +519,7 @@ lowest_each (suc tries) k l h j lt = go (any test l) refl lt (λ q m. lowest_eac
     go false e lt f = h j lt
 
 -- a new transfer's n is no live transfer's, and each lower one is
-pub lowest_exactly : (l : List Transfer) → length l < 128 → All (λ x. lowest_n l ≢ x.parcel.n) l × ((j : ℕ) → j < lowest_n l → Some (λ x. x.parcel.n ≡ j) l)
+pub lowest_exactly : (l : List Transfer) → length l < 128 → All (λ x. lowest_n l ≢ x.parcel.n) l × ((j : ℕ) → j < lowest_n l → Any (λ x. x.parcel.n ≡ j) l)
 lowest_exactly l h = ((lowest_free 128 0 l (λ j m. absurd (omega arith)) (omega arith)).1, λ j m. lowest_each 128 0 l (λ i z. absurd (omega arith)) j m)
 
 -- message n is in its own part of the lent store, from the first octet; every other octet is as it was, past the message in its own part too
@@ -572,7 +570,7 @@ matches_exactly a b =
     (equal_exactly a.frame b.frame)
 
 -- it is the selected frame's exactly if one is selected and its token is the same
-pub selected_exactly : (t : FrameToken) (f : PreparedFrame) → (is_selected t none ≡ false) × ((is_selected t (some f) ≡ true) ↔ SameToken f.token t)
+pub selected_exactly : (t : FrameToken) (f : PreparedFrame) → (is_selected t None ≡ false) × ((is_selected t (Some f) ≡ true) ↔ SameToken f.token t)
 selected_exactly t f = (refl, matches_exactly f.token t)
 
 -- a frame is outstanding exactly if it is one of the order's, in flight, and the word of its place holds its submission
@@ -585,19 +583,19 @@ outstanding_exactly t words x =
     (equal_exactly (get_or words (27 * x.parcel.n + t.frame) 0) t.submission.0)
 
 -- the end of a generation drops its own selected frame, and no other's
-pub unselect_exactly : (g : Generation) (f : PreparedFrame) → (unselect g none ≡ none) × (f.token.generation.0 ≡ g.0 → unselect g (some f) ≡ none) × (f.token.generation.0 ≢ g.0 → unselect g (some f) ≡ some f)
-unselect_exactly g f = (refl, (λ e. pick_true none (some f) (eq-eqb f.token.generation.0 g.0 e)), (λ n. pick_false none (some f) (ne_eqb f.token.generation.0 g.0 n)))
+pub unselect_exactly : (g : Generation) (f : PreparedFrame) → (unselect g None ≡ None) × (f.token.generation.0 ≡ g.0 → unselect g (Some f) ≡ None) × (f.token.generation.0 ≢ g.0 → unselect g (Some f) ≡ Some f)
+unselect_exactly g f = (refl, (λ e. pick_true None (Some f) (eq-eqb f.token.generation.0 g.0 e)), (λ n. pick_false None (Some f) (ne_eqb f.token.generation.0 g.0 n)))
 
 -- `prepare_prioritized` leaves a selected frame of its echo, and drops one of another
-pub only_echo_exactly : (echo : ℕ) (f : PreparedFrame) → (only_echo echo none ≡ none) × (f.partial_echo ≡ echo → only_echo echo (some f) ≡ some f) × (f.partial_echo ≢ echo → only_echo echo (some f) ≡ none)
-only_echo_exactly echo f = (refl, (λ e. pick_true (some f) none (eq-eqb f.partial_echo echo e)), (λ n. pick_false (some f) none (ne_eqb f.partial_echo echo n)))
+pub only_echo_exactly : (echo : ℕ) (f : PreparedFrame) → (only_echo echo None ≡ None) × (f.partial_echo ≡ echo → only_echo echo (Some f) ≡ Some f) × (f.partial_echo ≢ echo → only_echo echo (Some f) ≡ None)
+only_echo_exactly echo f = (refl, (λ e. pick_true (Some f) None (eq-eqb f.partial_echo echo e)), (λ n. pick_false (Some f) None (ne_eqb f.partial_echo echo n)))
 
 -- ---- what handing in and confirming leave
 
 -- a frame that is handed in leaves what was transmitted and observed, the status, and since when it waits; its block is progress and the last frame's
 pub hands_in_exactly : (frame block : ℕ) (x : Transfer) → let y = in_flight_lem frame block x in
     SameOrder x y × (y.sets.transmitted ≡ x.sets.transmitted) × (y.sets.observed ≡ x.sets.observed) × (y.sets.received_status ≡ x.sets.received_status)
-    × (y.blocks.last_progress ≡ Block block) × (y.blocks.last_frame ≡ Block block) × (y.blocks.waiting_since ≡ x.blocks.waiting_since)
+    × (y.blocks.last_progress ≡ Some block) × (y.blocks.last_frame ≡ Some block) × (y.blocks.waiting_since ≡ x.blocks.waiting_since)
     × ((k : ℕ) → has y.sets.queue k ≡ (has x.sets.queue k && not (eqb k frame))) × ((k : ℕ) → has y.sets.in_flight k ≡ (has x.sets.in_flight k || eqb k frame))
 hands_in_exactly frame block x = (
   (refl, refl, refl),
@@ -641,7 +639,7 @@ shows_exactly map = (bit_lacks (shown map) 0 (bit_first (shown map) ∙ omega ar
 -- a Continue that the map shows is observed if it is transmitted or in flight; this is progress, it waits no more, and nothing else is another
 pub observes_exactly : (map block : ℕ) (x : Transfer) → let y = observes map block x in
     SameOrder x y × (y.sets.queue ≡ x.sets.queue) × (y.sets.in_flight ≡ x.sets.in_flight) × (y.sets.transmitted ≡ x.sets.transmitted) × (y.sets.received_status ≡ true)
-    × (y.blocks.last_progress ≡ Block block) × (y.blocks.last_frame ≡ x.blocks.last_frame) × (y.blocks.waiting_since ≡ Never) × (has y.sets.observed 0 ≡ has x.sets.observed 0)
+    × (y.blocks.last_progress ≡ Some block) × (y.blocks.last_frame ≡ x.blocks.last_frame) × (y.blocks.waiting_since ≡ None) × (has y.sets.observed 0 ≡ has x.sets.observed 0)
     × ((k : ℕ) → has y.sets.observed (suc k) ≡ (has x.sets.observed (suc k) || ((ltb k 26 && has map k) && (has x.sets.transmitted (suc k) || has x.sets.in_flight (suc k)))))
 observes_exactly map block x = (
   (refl, refl, refl),
@@ -669,7 +667,7 @@ observes_exactly map block x = (
 -- ---- questions
 
 -- some element passes exactly if the test holds of one
-any_exactly : {A : Type 0} {P : A → Type 0} (p : A → Bool) (l : List A) → ((x : A) → (p x ≡ true) ↔ P x) → (any p l ≡ true) ↔ Some P l
+any_exactly : {A : Type 0} {P : A → Type 0} (p : A → Bool) (l : List A) → ((x : A) → (p x ≡ true) ↔ P x) → (any p l ≡ true) ↔ Any P l
 any_exactly p l f = (
   (λ e. some-map (λ x t. (f x).0 t) (any-true p l e)),
   (λ s. ⊎_elim (λ e. e) (λ e. absurd (some_all (λ x t n. true_false ((f x).1 t) n) s (any_false p l e))) (by_bool (any p l))),
@@ -680,19 +678,19 @@ pub addressed_exactly : (i : MobileIdentity) (x : Transfer) → (addressed i x �
 addressed_exactly i x = ((λ e. same_equal x.parcel.identity i e), (λ e. rw e (same_self i)))
 
 -- `contains`: some live transfer, overdue or not, is to the identity
-pub contains_exactly : (v : View) (i : MobileIdentity) → (contains_of v i ≡ true) ↔ Some (λ x. x.parcel.identity ≡ i) v.transfers
+pub contains_exactly : (v : View) (i : MobileIdentity) → (contains_of v i ≡ true) ↔ Any (λ x. x.parcel.identity ≡ i) v.transfers
 contains_exactly v i = any_exactly (addressed i) v.transfers (addressed_exactly i)
 
 -- `has_echo`: some live transfer has it
-pub has_echo_exactly : (v : View) (echo : ℕ) → (has_echo_of v echo ≡ true) ↔ Some (λ x. x.echo ≡ echo) v.transfers
+pub has_echo_exactly : (v : View) (echo : ℕ) → (has_echo_of v echo ≡ true) ↔ Any (λ x. x.echo ≡ echo) v.transfers
 has_echo_exactly v echo = any_exactly (of_echo echo) v.transfers (λ x. (eqb-true x.echo echo, eq-eqb x.echo echo))
 
 -- `radio_active`: some live transfer had progress under its present echo
-pub radio_active_exactly : (v : View) → (radio_active_of v ≡ true) ↔ Some (λ x. AnyBlock x.blocks.last_progress) v.transfers
+pub radio_active_exactly : (v : View) → (radio_active_of v ≡ true) ↔ Any (λ x. AnyBlock x.blocks.last_progress) v.transfers
 radio_active_exactly v = any_exactly (λ x. is_set x.blocks.last_progress) v.transfers (λ x. set_exactly x.blocks.last_progress)
 
 -- `ready`: some live transfer has a frame queued
-pub ready_of_exactly : (v : View) → (ready_of v ≡ true) ↔ Some (λ x. x.sets.queue ≢ 0) v.transfers
+pub ready_of_exactly : (v : View) → (ready_of v ≡ true) ↔ Any (λ x. x.sets.queue ≢ 0) v.transfers
 ready_of_exactly v = any_exactly is_ready v.transfers ready_exactly
 
 -- `pending`: as many as are live, whether they have frames queued or not
@@ -702,7 +700,7 @@ pending_exactly v = refl
 -- `can_enqueue`: at the block and time that are asked for, whatever the clock: the first usable block has come, fewer transfers than the capacity and
 -- fewer events, and some echo is held until then or earlier
 pub can_enqueue_exactly : (v : View) (block now : ℕ) → (can_enqueue_of v block now ≡ true)
-    ↔ ((v.limits.startup_until_block ≤ block) × (length v.transfers < v.limits.capacity) × (length v.events < v.limits.capacity) × Some (λ until. until ≤ now) v.echoes.echo_until_ms)
+    ↔ ((v.limits.startup_until_block ≤ block) × (length v.transfers < v.limits.capacity) × (length v.events < v.limits.capacity) × Any (λ until. until ≤ now) v.echoes.echo_until_ms)
 unfolding can_enqueue_of
 can_enqueue_exactly v block now =
     four (leb v.limits.startup_until_block block) (ltb (length v.transfers) v.limits.capacity) (ltb (length v.events) v.limits.capacity) (any (free now) v.echoes.echo_until_ms)

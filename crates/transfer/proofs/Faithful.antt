@@ -3,7 +3,7 @@ use mathlib.Core.Path.{◌≡◌, refl, sym, ap, subst, ◌∙◌}
 use mathlib.Core.Logic.{◌≢◌, ⊎_elim}
 use mathlib.Core.Bool.{Bool, ◌||◌}
 use mathlib.Core.List.{List, [], ◌∷◌, ◌++◌, append-nil, append_assoc}
-use mathlib.Core.Option.{Option, none, some}
+use Rattle.std.specs.Prelude.{Option, None, Some}
 use Prim.Native.Nat.{ℕ, ◌+◌, ◌-◌, ◌*◌, ◌≤◌, ◌<◌}
 use native.Mathlib.Omega.{arith}
 use lib.Dec.{eqb, ltb}
@@ -27,7 +27,7 @@ use Rattle.transfer.specs.Transfer.{message_of, begun}
 use Rattle.transfer.specs.Advance.{kept}
 use Rattle.transfer.specs.Enqueue.{lowest_n, parcel_of, stored}
 use Rattle.transfer.specs.Prepare.{packed_of, front_of, prepared_of}
-use Rattle.transfer.specs.Invariant.{All, all_none, all_more, Some, some-here, some-later, Live, Different, Sound}
+use Rattle.transfer.specs.Invariant.{All, all_none, all_more, Any, any-here, any-later, Live, Different, Sound}
 use Rattle.transfer.specs.History.{Call, Acceptance, Done, does, Fresh, run_alone, Accepts, Traced, Faithful}
 use Rattle.transfer.proofs.Listed.{all_map, all_head, all_tail, all_both, all_one, all_left, pairs_one}
 use Rattle.transfer.proofs.Alive.{SameParcel}
@@ -140,14 +140,14 @@ from_more v m calls more octets new p e h =
     }
 
 -- what some element is, with a fact of every one
-some_with : {A : Type 0} {P Q R : A → Type 0} {l : List A} → ((x : A) → P x → Q x → R x) → Some P l → All Q l → Some R l
-some_with f (some-here {x = x} p) k = some-here (f x p (all_head k))
-some_with f (some-later h) k = some-later (some_with f h (all_tail k))
+some_with : {A : Type 0} {P Q R : A → Type 0} {l : List A} → ((x : A) → P x → Q x → R x) → Any P l → All Q l → Any R l
+some_with f (any-here {x = x} p) k = any-here (f x p (all_head k))
+some_with f (any-later h) k = any-later (some_with f h (all_tail k))
 
 -- that element
-some_which : {A : Type 0} {P Q : A → Type 0} {l : List A} → Some P l → All Q l → (x : A) × Some (λ y. y ≡ x) l × P x × Q x
-some_which (some-here {x = x} p) k = (x, some-here refl, p, all_head k)
-some_which (some-later h) k = let r = some_which h (all_tail k) in (r.0, some-later r.1, r.2, r.3)
+some_which : {A : Type 0} {P Q : A → Type 0} {l : List A} → Any P l → All Q l → (x : A) × Any (λ y. y ≡ x) l × P x × Q x
+some_which (any-here {x = x} p) k = (x, any-here refl, p, all_head k)
+some_which (any-later h) k = let r = some_which h (all_tail k) in (r.0, any-later r.1, r.2, r.3)
 
 -- the message of a transfer that begins is put into a part of its own
 pub begun-stored : (octets : List ℕ) (r : Request) (message : List ℕ) (frames echo t : ℕ) (u : View) → let n = lowest_n u.transfers in let y = begun (parcel_of r message frames n t) echo t in
@@ -187,8 +187,8 @@ module _ (v : View) (m : Lent) where
   holds_more calls more octets new w e h = (all_map (λ x k. from_more v m calls more octets new x.parcel k.0 k.1) (all_both e h.0), go w.selected h.1)
     where
       go : (s : Option PreparedFrame) → Drawn (traces calls octets) w.transfers s → Drawn (traces (calls ++ more) new) w.transfers s
-      go none k = tt
-      go (some f) k = some_with (λ x c q. cut_held octets new f x q c) k e
+      go None k = tt
+      go (Some f) k = some_with (λ x c q. cut_held octets new f x q c) k e
 
   -- and the same octets
   same-octets : (octets : List ℕ) (l : List Transfer) → All (λ x. message_of x octets ≡ message_of x octets) l
@@ -216,7 +216,7 @@ module _ (v : View) (m : Lent) where
 
   -- what a call does last, if what it accepts is accepted
   last_holds : (calls : List Call) (c : Call) {octets : List ℕ} {w : View} {d : Done} → Last octets w c d
-      → ((x : Acceptance) → d.accepted ≡ some x → Accepts v m (calls ++ c ∷ []) x.request x.message x.token) → Sound d.sender → Holds calls octets w → Holds (calls ++ c ∷ []) d.lent.octets d.sender
+      → ((x : Acceptance) → d.accepted ≡ Some x → Accepts v m (calls ++ c ∷ []) x.request x.message x.token) → Sound d.sender → Holds calls octets w → Holds (calls ++ c ∷ []) d.lent.octets d.sender
   last_holds calls c {octets} {w = w} silent k s h = holds_called calls c octets w h
   last_holds calls c {octets} {w = w} (tells_one f e p) k s h = holds_called calls c octets w h
   last_holds calls c {octets} {w = w} (accepts_one r message g i long p) k s h =
@@ -228,8 +228,8 @@ module _ (v : View) (m : Lent) where
 
   module _ (calls : List Call) (w : View) (lent : Lent) (h : Holds calls lent.octets w) where
     -- what a call accepts is accepted
-    accepted_call : (c : Call) → run_alone v m calls ≡ (w, lent) → (x : Acceptance) → (does w lent c).accepted ≡ some x → Accepts v m (calls ++ c ∷ []) x.request x.message x.token
-    accepted_call c e x q = record { earlier = calls; call = c; later = []; split = refl; accepted = subst (λ (y : View × Lent). (does y.0 y.1 c).accepted ≡ some x) (sym e) q }
+    accepted_call : (c : Call) → run_alone v m calls ≡ (w, lent) → (x : Acceptance) → (does w lent c).accepted ≡ Some x → Accepts v m (calls ++ c ∷ []) x.request x.message x.token
+    accepted_call c e x q = record { earlier = calls; call = c; later = []; split = refl; accepted = subst (λ (y : View × Lent). (does y.0 y.1 c).accepted ≡ Some x) (sym e) q }
 
     -- before what it does last
     middle_holds : (c : Call) (s : Sound w) → Holds calls lent.octets (does_leaves w lent c s).middle
@@ -240,11 +240,11 @@ module _ (v : View) (m : Lent) where
     does_holds c e s = last_holds calls c (does_leaves w lent c s).last (accepted_call c e) (does-kept w lent c s) (middle_holds c s)
 
     -- a frame that is told is selected then, and the transfers and the selection come from the calls before
-    told : (c : Call) (f : PreparedFrame) → Sound w → (does w lent c).frame ≡ some f → Holds calls lent.octets (does w lent c).sender × ((does w lent c).sender.selected ≡ some f)
+    told : (c : Call) (f : PreparedFrame) → Sound w → (does w lent c).frame ≡ Some f → Holds calls lent.octets (does w lent c).sender × ((does w lent c).sender.selected ≡ Some f)
     told c f s e = let l = last-told f (does_leaves w lent c s).last e in (subst (Holds calls lent.octets) l.0 (middle_holds c s), l.1)
 
   -- a selected frame is traced
-  traced : (calls : List Call) (octets : List ℕ) (w : View) (f : PreparedFrame) → Holds calls octets w → w.selected ≡ some f → Traced v m calls w f
+  traced : (calls : List Call) (octets : List ℕ) (w : View) (f : PreparedFrame) → Holds calls octets w → w.selected ≡ Some f → Traced v m calls w f
   unfolding packed_of
   traced calls octets w f h e =
       let k = some_which (subst (Drawn (traces calls octets) w.transfers) e h.1) h.0 in
@@ -316,7 +316,7 @@ Ordered v m calls x = (r : Request) × (message : List ℕ) × Accepts v m calls
 pub ordered : (v : View) (m : Lent) (calls : List Call) (c : Call) (f : PreparedFrame) → Fresh v →
     let at = run_alone v m calls in
     let d = does at.0 at.1 c in
-    d.frame ≡ some f → All (Ordered v m calls) d.sender.transfers
+    d.frame ≡ Some f → All (Ordered v m calls) d.sender.transfers
 ordered v m calls c f fr e =
     let at = run_alone v m calls in
     let k = after-fresh v m calls fr in

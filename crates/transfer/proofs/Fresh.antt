@@ -3,7 +3,7 @@
 use mathlib.Core.Path.{◌≡◌, refl, sym}
 use mathlib.Core.Bool.{false, true≢false}
 use mathlib.Core.List.{[], ◌∷◌, ◌++◌}
-use mathlib.Core.Option.{Option, some}
+use Rattle.std.specs.Prelude.{Option, None, Some}
 use Prim.Native.Nat.{ℕ, ◌≤◌, zero-le}
 use lib.Count.{ones, ones_in, count_trailing_zeros}
 use lib.Dec.{lit≤}
@@ -21,8 +21,6 @@ use Rattle.arq.specs.Encode.{encode_of}
 use Rattle.arq.specs.Cut.{count_of, frame_of}
 use Rattle.transfer.specs.declared.Event.TheVariants.{Cancelled}
 use Rattle.transfer.specs.declared.Request.{Request}
-use Rattle.transfer.specs.declared.Since.{Since}
-use Rattle.transfer.specs.declared.Since.TheVariants.{Never, Block}
 use Rattle.transfer.specs.declared.Transfer.{Transfer}
 use Rattle.transfer.specs.declared.PreparedFrame.{PreparedFrame}
 use Rattle.transfer.specs.State.{View, Lent, fresh}
@@ -33,7 +31,7 @@ use Rattle.transfer.specs.Enqueue.{grant_of, accepts, enqueue_of}
 use Rattle.transfer.specs.Prepare.{packed_of, choose, prepare_of}
 use Rattle.transfer.specs.Submitted.{submitted_at, submitted_of}
 use Rattle.transfer.specs.Cancel.{cancel_of}
-use Rattle.transfer.specs.Invariant.{all_none, all_more, some-here, pairs-none, pairs-more, Live, Different, Sound}
+use Rattle.transfer.specs.Invariant.{all_none, all_more, any-here, pairs-none, pairs-more, Live, Different, Sound}
 
 -- ---- the constructor
 
@@ -55,21 +53,21 @@ fresh_sound capacity guard first_block first some_capacity most_capacity counter
 -- ---- a busy sender
 
 -- a transfer with frames in flight or queued, that had progress at block 10 or none yet
-abbrev transfer : (value completion octets frames n owner echo queue flight : ℕ) → Since → Transfer
+abbrev transfer : (value completion octets frames n owner echo queue flight : ℕ) → Option ℕ → Transfer
 transfer value completion octs count n owner echo queue flight since = record {
   parcel = record { identity = Tmsi20 value; completion = completion; deadline_ms = 5000; owner = record { 0 = owner }; channel = Arch; octets = octs; frames = count; n = n };
   generation = record { 0 = owner };
   sets = record { queue = queue; in_flight = flight; transmitted = 0; observed = 0; received_status = false };
   echo = echo;
-  blocks = record { last_progress = since; last_frame = since; waiting_since = Never };
+  blocks = record { last_progress = since; last_frame = since; waiting_since = None };
 }
 
 -- three frames, the first in flight; one frame, selected
 abbrev sent : Transfer
-sent = transfer 1 1 17 3 0 100 0 6 1 (Block 10)
+sent = transfer 1 1 17 3 0 100 0 6 1 (Some 10)
 
 abbrev next : Transfer
-next = transfer 2 2 1 1 1 102 2 1 0 Never
+next = transfer 2 2 1 1 1 102 2 1 0 None
 
 abbrev frame : PreparedFrame
 frame = record {
@@ -87,7 +85,7 @@ busy = record {
   transfers = next ∷ sent ∷ [];
   events = Cancelled 3 ∷ [];
   echoes = record { echo_until_ms = replicate 3 6000 ++ replicate 125 0; next_echo = 3 };
-  selected = some frame;
+  selected = Some frame;
   next_token = 105;
 }
 
@@ -179,6 +177,6 @@ busy_sound = record {
   next_echo = lit≤ tt;
   transfers = all_more next_live (all_more sent_live all_none);
   different = pairs-more (all_more next_sent all_none) (pairs-more all_none pairs-none);
-  selected = (some-here (record { generation = refl; ready = refl; frame = refl; echo = refl; identity = refl }), lit≤ tt);
+  selected = (any-here (record { generation = refl; ready = refl; frame = refl; echo = refl; identity = refl }), lit≤ tt);
   counter = lit≤ tt;
 }

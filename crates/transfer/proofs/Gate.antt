@@ -4,7 +4,7 @@ use mathlib.Core.Logic.{◌⊎◌, inl, inr, ⊎_elim, ◌≢◌}
 use mathlib.Core.Bool.{Bool, true, false, not}
 use mathlib.Core.List.Memᴰ
 use mathlib.Core.List.{List, [], ◌∷◌, ◌++◌, Memᴰ, head-eq_of_cons-eq, tail-eq_of_cons-eq}
-use mathlib.Core.Option.{some}
+use Rattle.std.specs.Prelude.{None, Some, bytes_eq}
 use Prim.Native.Nat.{ℕ, zero, suc, ◌+◌, ◌≤◌, ◌<◌}
 use native.Mathlib.Omega.{arith}
 use lib.Dec.{eqb, ltb}
@@ -33,11 +33,10 @@ use Rattle.arq.proofs.Fragments.{counted}
 use Rattle.arq.proofs.Round.{header_accepted}
 use Rattle.arq.proofs.Theorems.{cut_decodes}
 use Rattle.receiver.specs.declared.ArqReassembler.{ArqReassembler}
-use Rattle.receiver.specs.declared.Delivery.TheVariants.{Nothing, Message}
 use Rattle.receiver.specs.declared.Reception.{Reception}
 use Rattle.receiver.specs.declared.Reception.TheVariants.{Ignored, Accepted}
 use Rattle.receiver.specs.Receiver as receivers
-use Rattle.receiver.specs.Receiver.{Out, same_octets, push_of, status_answer}
+use Rattle.receiver.specs.Receiver.{Out, push_of, status_answer}
 use Rattle.receiver.specs.Demand3.{Push, CutFrom, Such, OfCut, Fitting, Delivered, Undelivered, Delivers, Silent, runs, Holds}
 use Rattle.receiver.proofs.Heard.{frame_is}
 use Rattle.receiver.proofs.PushCases.{by_bool, true_false, same-octets, octets-same, kinds_apart}
@@ -141,7 +140,7 @@ continue_cut channel echo p i m (suc k) g e a =
 
 -- lists are equal, if they cannot differ
 stable_list : (a b : List ℕ) → ((a ≡ b → ⊥) → ⊥) → a ≡ b
-stable_list a b h = ⊎_elim (same-octets a b) (λ e. absurd (h (λ q. true_false (subst (λ c. same_octets a c ≡ true) q (octets-same a)) e))) (by_bool (same_octets a b))
+stable_list a b h = ⊎_elim (same-octets a b) (λ e. absurd (h (λ q. true_false (subst (λ c. bytes_eq a c ≡ true) q (octets-same a)) e))) (by_bool (bytes_eq a b))
 
 -- and so are numbers
 stable : (a b : ℕ) → ((a ≡ b → ⊥) → ⊥) → a ≡ b
@@ -156,13 +155,13 @@ either {A} m b o given none-given = go o.outcome refl
     quiet k = inr (none-given (λ a. k (given a).answer))
 
     go : (x : Outcome Reception) → o.outcome ≡ x → Delivers m b o ⊎ Silent b o
-    go (gives (Accepted (Message d) r)) e =
+    go (gives (Accepted (Some d) r)) e =
         let not-silent : Silent b o → ⊥ = λ s. subst Undelivered e s.answer in
         inl (record {
           answer = subst (Delivered (length m)) (sym e) (stable d.length (length m) (λ k. not-silent (none-given (λ a. k (subst (Delivered (length m)) e (given a).answer)))));
           buffer = stable_list o.buffer (m ++ drop (length m) b) (λ k. not-silent (none-given (λ a. k (given a).buffer)));
         })
-    go (gives (Accepted Nothing r)) e = quiet (λ h. subst (Delivered (length m)) e h)
+    go (gives (Accepted None r)) e = quiet (λ h. subst (Delivered (length m)) e h)
     go (gives Ignored) e = quiet (λ h. subst (Delivered (length m)) e h)
     go (refuses n) e = quiet (λ h. subst (Delivered (length m)) e h)
 
@@ -212,7 +211,7 @@ module _ (v : View) (m : Lent) (calls : List Call) (fr : Fresh v) where
     -- both were prepared by one call
     same_call : s.earlier ≡ u.earlier → s.call ≡ u.call → OfFirst
     same_call a c =
-        let h : (doing v m s.earlier s.call).frame ≡ some u.frame = subst (λ l. (doing v m l s.call).frame ≡ some u.frame) (sym a) (subst (λ d. (doing v m u.earlier d).frame ≡ some u.frame) (sym c) u.prepared) in
+        let h : (doing v m s.earlier s.call).frame ≡ Some u.frame = subst (λ l. (doing v m l s.call).frame ≡ Some u.frame) (sym a) (subst (λ d. (doing v m u.earlier d).frame ≡ Some u.frame) (sym c) u.prepared) in
         let e : s.frame ≡ u.frame = let z = sym s.prepared ∙ h in cc in
         subst (λ g. IsFrameOf g (trace s).transfer (trace s).request (trace s).message) e (trace s).frame
 
@@ -220,7 +219,7 @@ module _ (v : View) (m : Lent) (calls : List Call) (fr : Fresh v) where
     later_call : (e : List Call) → u.earlier ≡ s.earlier ++ s.call ∷ e → OfFirst
     later_call e a =
         one_order v m s.earlier e s.call u.call s.frame u.frame fr s.prepared
-        (subst (λ l. (doing v m l u.call).frame ≡ some u.frame) a u.prepared) q
+        (subst (λ l. (doing v m l u.call).frame ≡ Some u.frame) a u.prepared) q
         (subst (λ l. (doing v m l u.call).sender.clock.last_ms < (times_of s).until) a n.1) (trace s)
 
     -- or by an earlier one

@@ -15,7 +15,7 @@ use Rattle.transfer.specs.State.{Echoes, View, Lent}
 use Rattle.transfer.specs.Echo.{held_until, hold}
 use Rattle.transfer.specs.Transfer.{begun}
 use Rattle.transfer.specs.Enqueue.{lowest_n, parcel_of}
-use Rattle.transfer.specs.Invariant.{Some, some-here, some-later, Sound}
+use Rattle.transfer.specs.Invariant.{Any, any-here, any-later, Sound}
 use Rattle.transfer.specs.History.{Call, Done, does, hold_of, OnlyTaken}
 use Rattle.transfer.proofs.Listed.{some_left, some_right, some_out, some_one, some_in}
 use Rattle.transfer.proofs.Alive.{SameParcel}
@@ -40,26 +40,26 @@ module _ (v : View) (low : v.next_token ≤ stop) where
   -- each hold is as it was in v, or a live transfer has the echo under a new generation; and tokens have not fallen
   pub record Shows (w : View) : Type 0 where
     pub tokens : v.next_token ≤ w.next_token
-    pub held : (echo : ℕ) → (hold_of w echo ≡ hold_of v echo) ⊎ Some (Under v.next_token echo) w.transfers
+    pub held : (echo : ℕ) → (hold_of w echo ≡ hold_of v echo) ⊎ Any (Under v.next_token echo) w.transfers
 
   -- a change that leaves the holds, and each such transfer such
-  leaves : (u w : View) → v.next_token ≤ w.next_token → w.echoes ≡ u.echoes → ((echo : ℕ) → Some (Under v.next_token echo) u.transfers → Some (Under v.next_token echo) w.transfers) → Shows u → Shows w
+  leaves : (u w : View) → v.next_token ≤ w.next_token → w.echoes ≡ u.echoes → ((echo : ℕ) → Any (Under v.next_token echo) u.transfers → Any (Under v.next_token echo) w.transfers) → Shows u → Shows w
   leaves u w t e f h = record { tokens = t; held = λ echo. ⊎_elim (λ k. inl (ap (λ (k : Echoes). get_or k.echo_until_ms echo 0) e ∙ k)) (λ s. inr (f echo s)) (h.held echo) }
 
   -- an echo is taken, and a live transfer has it
-  takes : (u w : View) (new until : ℕ) → v.next_token ≤ w.next_token → w.echoes ≡ hold u.echoes new until → Some (Under v.next_token new) w.transfers
-      → ((echo : ℕ) → Some (Under v.next_token echo) u.transfers → Some (Under v.next_token echo) w.transfers) → Shows u → Shows w
+  takes : (u w : View) (new until : ℕ) → v.next_token ≤ w.next_token → w.echoes ≡ hold u.echoes new until → Any (Under v.next_token new) w.transfers
+      → ((echo : ℕ) → Any (Under v.next_token echo) u.transfers → Any (Under v.next_token echo) w.transfers) → Shows u → Shows w
   takes u w new until t e s f h =
       record {
         tokens = t;
         held = λ echo.
-            ⊎_elim (λ q. inr (subst (λ k. Some (Under v.next_token k) w.transfers) (sym (eqb-true echo new q)) s))
+            ⊎_elim (λ q. inr (subst (λ k. Any (Under v.next_token k) w.transfers) (sym (eqb-true echo new q)) s))
             (λ q. ⊎_elim (λ k. inl (ap (λ (k : Echoes). get_or k.echo_until_ms echo 0) e ∙ (held_other u.echoes new until echo (eqb-false echo new q) ∙ k))) (λ k. inr (f echo k)) (h.held echo))
             (by_bool (eqb echo new));
       }
 
   -- what was there when the call began is none that began
-  not_old : (a : List Transfer) (x : Transfer) (b : List Transfer) (echo : ℕ) → x.generation.0 < v.next_token → Some (Under v.next_token echo) (a ++ x ∷ b) → Some (Under v.next_token echo) (a ++ b)
+  not_old : (a : List Transfer) (x : Transfer) (b : List Transfer) (echo : ℕ) → x.generation.0 < v.next_token → Any (Under v.next_token echo) (a ++ x ∷ b) → Any (Under v.next_token echo) (a ++ b)
   not_old a x b echo old s = ⊎_elim (λ k. let g = k.1 in absurd (omega arith)) (λ r. r) (some_out a x b s)
 
   -- each
@@ -68,13 +68,13 @@ module _ (v : View) (low : v.next_token ≤ stop) where
   move_shows {u = u} {w = w} (picks a b x p e r room q) h = let t = h.tokens in leaves u w (omega arith) refl (λ echo k. k) h
   move_shows {u = u} {w = w} (shifts a b c d x y e q s) h =
       leaves u w h.tokens refl
-      (λ echo k. ⊎_elim (λ n. some_one c y d (under_same v.next_token echo y x s.same n)) (λ n. some_in c y d (subst (Some (Under v.next_token echo)) (sym q) n)) (some_out a x b (subst (Some (Under v.next_token echo)) e k))) h
+      (λ echo k. ⊎_elim (λ n. some_one c y d (under_same v.next_token echo y x s.same n)) (λ n. some_in c y d (subst (Any (Under v.next_token echo)) (sym q) n)) (some_out a x b (subst (Any (Under v.next_token echo)) e k))) h
   move_shows {u = u} {w = w} (restarts a b x new e old due room q) h =
       let t = h.tokens in
       let y = begun x.parcel new u.next_token in
       takes u w new (held_until u.limits x.parcel.deadline_ms) (omega arith) refl (some_one a y b (refl, t))
-      (λ echo k. some_in a y b (not_old a x b echo old (subst (Some (Under v.next_token echo)) e k))) h
-  move_shows {u = u} {w = w} (ends a b x how q old) h = leaves u w h.tokens refl (λ echo k. not_old a x b echo old (subst (Some (Under v.next_token echo)) q k)) h
+      (λ echo k. some_in a y b (not_old a x b echo old (subst (Any (Under v.next_token echo)) e k))) h
+  move_shows {u = u} {w = w} (ends a b x how q old) h = leaves u w h.tokens refl (λ echo k. not_old a x b echo old (subst (Any (Under v.next_token echo)) q k)) h
 
   -- one after the other
   moves_shows : {octets : List ℕ} {u w : View} → Moves octets v.next_token u w → Shows u → Shows w
@@ -89,7 +89,7 @@ module _ (v : View) (low : v.next_token ≤ stop) where
       let t = h.tokens in
       let room = i.counter in
       let y = begun (parcel_of r message g.frames (lowest_n u.transfers) u.next_token) g.echo u.next_token in
-      takes u d.sender g.echo (held_until u.limits r.deadline_ms) (omega arith) refl (some_right u.transfers (y ∷ []) (some-here (refl, t))) (λ echo k. some_left u.transfers (y ∷ []) k) h
+      takes u d.sender g.echo (held_until u.limits r.deadline_ms) (omega arith) refl (some_right u.transfers (y ∷ []) (any-here (refl, t))) (λ echo k. some_left u.transfers (y ∷ []) k) h
   last_shows {u = u} {d = d} (takes_one e l q) h = leaves u d.sender h.tokens refl (λ echo k. k) h
 
 -- each call
@@ -101,9 +101,9 @@ does_shows v m c h =
 -- ---- over a list of calls
 
 -- the transfer that has the echo gives the deadline
-with_deadline : {first echo : ℕ} {l : List Transfer} → Some (Under first echo) l → (deadline : ℕ) × Some (λ x. (x.echo ≡ echo) × (x.parcel.deadline_ms ≡ deadline) × (first ≤ x.generation.0)) l
-with_deadline (some-here {x = x} p) = (x.parcel.deadline_ms, some-here (p.0, refl, p.1))
-with_deadline (some-later h) = let d = with_deadline h in (d.0, some-later d.1)
+with_deadline : {first echo : ℕ} {l : List Transfer} → Any (Under first echo) l → (deadline : ℕ) × Any (λ x. (x.echo ≡ echo) × (x.parcel.deadline_ms ≡ deadline) × (first ≤ x.generation.0)) l
+with_deadline (any-here {x = x} p) = (x.parcel.deadline_ms, any-here (p.0, refl, p.1))
+with_deadline (any-later h) = let d = with_deadline h in (d.0, any-later d.1)
 
 -- an echo's hold changes only when it is taken
 pub only_taken : OnlyTaken

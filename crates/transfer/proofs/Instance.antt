@@ -19,13 +19,13 @@ use Rattle.transfer.specs.Transfer.{done_of, settle_of}
 use Rattle.transfer.specs.Advance.{fate_of, step, walk}
 use Rattle.transfer.specs.Enqueue.{grant_of, accepts, enqueue_of}
 use Rattle.transfer.specs.Prepare.{interrupt_of}
-use Rattle.transfer.specs.Invariant.{Some, some-here}
+use Rattle.transfer.specs.Invariant.{Any, any-here}
 use Rattle.transfer.specs.History.{Enqueue, Interrupt, Told, after, run, Fresh, Takes}
 
 -- the one element of a list
-one : {P : Transfer → Type 0} (l : List Transfer) → length l ≡ 1 → P (get_or l 0 blank_transfer) → Some P l
+one : {P : Transfer → Type 0} (l : List Transfer) → length l ≡ 1 → P (get_or l 0 blank_transfer) → Any P l
 one [] e p = absurd (omega arith)
-one (x ∷ l) e p = some-here p
+one (x ∷ l) e p = any-here p
 
 -- the lent memory
 abbrev pub lends : Lent

@@ -3,7 +3,7 @@ use mathlib.Core.Path.{◌≡◌, refl, sym, ap, subst, ◌∙◌}
 use mathlib.Core.Logic.{◌≢◌, ⊎_elim}
 use mathlib.Core.Bool.{Bool, true, false, cond, not, ◌&&◌, ◌||◌, true≢false}
 use mathlib.Core.List.{List, [], ◌∷◌, ◌++◌, map}
-use mathlib.Core.Option.{Option, none, some, none-ne-some}
+use Rattle.std.specs.Prelude.{Option, None, Some}
 use Prim.Native.Nat.{ℕ, zero, suc, ◌+◌, ◌*◌, ◌^◌, ◌-◌, ◌≤◌, ◌<◌}
 use lib.Bits.{and_zero_r}
 use lib.Pow.{pow_pos, pow_mono}
@@ -27,8 +27,6 @@ use Rattle.transfer.specs.declared.FrameToken.{FrameToken}
 use Rattle.transfer.specs.declared.Request.{Request}
 use Rattle.transfer.specs.declared.Parcel.{Parcel}
 use Rattle.transfer.specs.declared.Event.{Event}
-use Rattle.transfer.specs.declared.Since.{Since}
-use Rattle.transfer.specs.declared.Since.TheVariants.{Never, Block}
 use Rattle.transfer.specs.declared.Transfer.{Transfer}
 use Rattle.transfer.specs.declared.PreparedFrame.{PreparedFrame}
 use Rattle.transfer.specs.Lists.{position, any, remove_at, push_back}
@@ -42,7 +40,7 @@ use Rattle.transfer.specs.Prepare.{is_ready, choose, repeated, only_echo, priori
 use Rattle.transfer.specs.Submitted.{is_selected, in_flight_lem, handed_in, submitted_at, is_outstanding, confirm_frame, confirms, transmitted_at}
 use Rattle.transfer.specs.Refresh.{refreshed}
 use Rattle.transfer.specs.Status.{observes, status_at}
-use Rattle.transfer.specs.Invariant.{All, Some, Pairs, ByBlock, Accepted, SetsAgree, Live, Different, Chosen, Selected, Sound}
+use Rattle.transfer.specs.Invariant.{All, Any, Pairs, ByBlock, Accepted, SetsAgree, Live, Different, Chosen, Selected, Sound}
 use Rattle.transfer.proofs.Listed.{all_map, all_both, all_in, all_back, some-map, some_all, some_in, some_one, some_left, pairs_map, pairs_in, pairs-at, pairs_back, length_in, length_removed, length_back, any_false, any-true, position-none, position-found, pigeon, some_out, all_rest, all_one, pairs_rest, pairs_one}
 use Rattle.transfer.proofs.Alive.{in_flight_live, SameParcel, settled_parcel, repeated_parcel, refreshed_parcel, settled_live, repeated_live, refreshed_live, confirmed_live, observed_live, settled_chosen, repeated_chosen, refreshed_chosen, confirmed_chosen, observed_chosen}
 use Rattle.transfer.proofs.EchoSearch.{free_now, held_after, held_other}
@@ -83,9 +81,9 @@ module _ (c : Clock) (block ms : ℕ) (hb : c.last_block ≤ block) (hm : c.last
   pub not_overdue : (x : Transfer) → overdue later x ≡ false → overdue c x ≡ false
   not_overdue x e = let h = leb-false x.parcel.deadline_ms ms e in lt-leb x.parcel.deadline_ms c.last_ms (omega arith)
 
-  by_later : (s : Since) → ByBlock c.last_block s → ByBlock block s
-  by_later Never h = tt
-  by_later (Block b) h = omega arith
+  by_later : (s : Option ℕ) → ByBlock c.last_block s → ByBlock block s
+  by_later None h = tt
+  by_later (Some b) h = omega arith
 
   -- a live transfer stays so
   pub live_later : (l : Limits) (e : Echoes) (next : ℕ) (x : Transfer) → Live l c e next x → Live l later e next x
@@ -152,9 +150,9 @@ cond_cases P false x y a b = b refl
 
 -- a selected frame that is not of this generation is another's
 selected_out : (a : List Transfer) (x : Transfer) (b : List Transfer) (next : ℕ) (s : Option PreparedFrame) → Selected (a ++ x ∷ b) next s → Selected (a ++ b) next (unselect x.generation s)
-selected_out a x b next none h = tt
-selected_out a x b next (some f) h =
-    cond_cases {X = Option PreparedFrame} (Selected (a ++ b) next) (eqb f.token.generation.0 x.generation.0) none (some f) (λ e. tt)
+selected_out a x b next None h = tt
+selected_out a x b next (Some f) h =
+    cond_cases {X = Option PreparedFrame} (Selected (a ++ b) next) (eqb f.token.generation.0 x.generation.0) None (Some f) (λ e. tt)
     (λ e. (⊎_elim (λ (c : Chosen f x). absurd (eqb-false _ _ e c.generation)) (λ k. k) (some_out a x b h.0), h.1))
 
 -- a transfer ends with an event
@@ -181,7 +179,7 @@ cancel_kept v place lt h =
 pub record Keeps (v : View) (y x : Transfer) : Type 0 where
   pub same : SameParcel y x
   pub live : Live v.limits v.clock v.echoes v.next_token x → Live v.limits v.clock v.echoes v.next_token y
-  pub chosen : (f : PreparedFrame) → v.selected ≡ some f → Chosen f x → Chosen f y
+  pub chosen : (f : PreparedFrame) → v.selected ≡ Some f → Chosen f x → Chosen f y
 
 -- whichever the others are
 pub keeps_among : {v : View} {y x : Transfer} (l : List Transfer) → Keeps v y x → Keeps (with_transfers v l) y x
@@ -204,8 +202,8 @@ placed_kept v a b c d x y e k h =
     (selected v.selected refl h.selected) h
   where
     selected : (s : Option PreparedFrame) → v.selected ≡ s → Selected (a ++ x ∷ b) v.next_token s → Selected (c ++ y ∷ d) v.next_token s
-    selected none q t = tt
-    selected (some f) q t = (⊎_elim (λ (r : Chosen f x). some_one c y d (k.chosen f q r)) (λ r. some_in c y d (subst (Some (Chosen f)) (sym e) r)) (some_out a x b t.0), t.1)
+    selected None q t = tt
+    selected (Some f) q t = (⊎_elim (λ (r : Chosen f x). some_one c y d (k.chosen f q r)) (λ r. some_in c y d (subst (Any (Chosen f)) (sym e) r)) (some_out a x b t.0), t.1)
 
 module _ (v : View) (x : Transfer) where
   -- at the clock's block
@@ -237,19 +235,19 @@ module _ (v : View) (x : Transfer) where
   observed_keeps map begun = record { same = (refl, refl, refl); live = λ h. observed_live x h map begun; chosen = λ f e c. observed_chosen x c map block }
 
   -- its front in flight, with none selected
-  pub in_flight_keeps : (frame : ℕ) → v.selected ≡ none → (is_ready x && eqb (front x.sets.queue) frame) ≡ true → Keeps v (in_flight_lem frame block x) x
+  pub in_flight_keeps : (frame : ℕ) → v.selected ≡ None → (is_ready x && eqb (front x.sets.queue) frame) ≡ true → Keeps v (in_flight_lem frame block x) x
   in_flight_keeps frame n e =
       let q = both (is_ready x) (eqb (front x.sets.queue) frame) e in
       record {
         same = (refl, refl, refl);
         live = λ h. in_flight_live x h frame q.0 (sym (eqb-true (front x.sets.queue) frame q.1));
-        chosen = λ f s c. absurd (none-ne-some f (sym n ∙ s));
+        chosen = λ f s c. cc;
       }
 
 -- ---- an echo is held
 
 -- no live transfer that is not overdue has an echo that is free
-pub free_unheld : (v : View) {echo : ℕ} → free_echo v.echoes v.clock.last_ms ≡ some echo → Sound v → All (λ x. overdue v.clock x ≡ false → x.echo ≢ echo) v.transfers
+pub free_unheld : (v : View) {echo : ℕ} → free_echo v.echoes v.clock.last_ms ≡ Some echo → Sound v → All (λ x. overdue v.clock x ≡ false → x.echo ≢ echo) v.transfers
 free_unheld v {echo} q h = all_map go h.transfers
   where
     go : (x : Transfer) → Live v.limits v.clock v.echoes v.next_token x → overdue v.clock x ≡ false → x.echo ≢ echo
@@ -275,7 +273,7 @@ live_hold l c e next echo until x n h =
     }
 
 -- a free echo is held
-pub hold-kept : (v : View) (echo until : ℕ) → free_echo v.echoes v.clock.last_ms ≡ some echo → Sound v → Sound (with_echoes v (hold v.echoes echo until))
+pub hold-kept : (v : View) (echo until : ℕ) → free_echo v.echoes v.clock.last_ms ≡ Some echo → Sound v → Sound (with_echoes v (hold v.echoes echo until))
 hold-kept v echo until q h =
     record {
       some_capacity = h.some_capacity;
@@ -311,8 +309,8 @@ live_after l c e next x s h =
     }
 
 selected_after : (l : List Transfer) (next : ℕ) (s : Option PreparedFrame) → next ≤ stop → Selected l next s → Selected l (number_after next) s
-selected_after l next none k h = tt
-selected_after l next (some f) k h = (h.0, below_after f.token.submission.0 next k h.1)
+selected_after l next None k h = tt
+selected_after l next (Some f) k h = (h.0, below_after f.token.submission.0 next k h.1)
 
 -- the next token is taken
 pub token_kept : (v : View) → Sound v → Sound (token_taken v)
@@ -333,8 +331,8 @@ token_kept v h =
 -- ---- one transfer more
 
 selected_back : (l : List Transfer) (x : Transfer) (next : ℕ) (s : Option PreparedFrame) → Selected l next s → Selected (push_back l x) next s
-selected_back l x next none h = tt
-selected_back l x next (some f) h = (some_left l (x ∷ []) h.0, h.1)
+selected_back l x next None h = tt
+selected_back l x next (Some f) h = (some_left l (x ∷ []) h.0, h.1)
 
 -- a live transfer that differs from all goes to the back
 pub joined-kept : (w : View) (x : Transfer) → Live w.limits w.clock w.echoes w.next_token x → All (Different w.clock x) w.transfers
@@ -418,15 +416,15 @@ seek_cases P test l nothing found a b =
     (λ e. let lt = ltb-true (position test l) (length l) e in b (position test l) lt (position-found test blank_transfer l lt)) (λ e. a (position-none test l (ltb-false (position test l) (length l) e)))
 
 -- what `prepare_prioritized` does after its `advance`: nothing, or there is a transfer to put first, and then the choice or nothing
-pub prioritize_cases : (P : After (Option PreparedFrame) View → Type 0) (v : View) (octets : List ℕ) (echo : ℕ) → P (says none v)
-    → ((i : ℕ) → i < length v.transfers → let w = with_selected (with_transfers v (repeated (get_or v.transfers i blank_transfer) ∷ remove_at i v.transfers)) (only_echo echo v.selected) in P (choose w octets) × P (says none w))
+pub prioritize_cases : (P : After (Option PreparedFrame) View → Type 0) (v : View) (octets : List ℕ) (echo : ℕ) → P (says None v)
+    → ((i : ℕ) → i < length v.transfers → let w = with_selected (with_transfers v (repeated (get_or v.transfers i blank_transfer) ∷ remove_at i v.transfers)) (only_echo echo v.selected) in P (choose w octets) × P (says None w))
     → P (prioritize_at v octets echo)
 unfolding prioritize_at
 prioritize_cases P v octets echo h k =
-    seek_cases P (of_echo echo) v.transfers (says none v) (prioritized v octets echo) (λ n. h)
+    seek_cases P (of_echo echo) v.transfers (says None v) (prioritized v octets echo) (λ n. h)
     (λ i lt t. let x = get_or v.transfers i blank_transfer in
     let w = with_selected (with_transfers v (repeated x ∷ remove_at i v.transfers)) (only_echo echo v.selected) in
-    cond_cases P (is_ready (repeated x)) (choose w octets) (says none w) (λ e. (k i lt).0) (λ e. (k i lt).1))
+    cond_cases P (is_ready (repeated x)) (choose w octets) (says None w) (λ e. (k i lt).0) (λ e. (k i lt).1))
 
 -- what `submitted` does at the moved clock: it refuses, or the front of a transfer is handed in
 pub submit_cases : (P : Out Unit → Type 0) (v : View) (m : Lent) (t : FrameToken) → P (refusal 24 v m)
@@ -447,8 +445,8 @@ pub confirm_cases : (P : View → Type 0) (v : View) (words : List ℕ) (t : Fra
     → P (transmitted_at v words t).state
 unfolding transmitted_at
 confirm_cases P v words t h k =
-    seek_cases {X = After (Option Bool) View} (λ a. P a.state) (of_generation t.generation) v.transfers (says none v) (λ place x. cond (is_outstanding t words x) (confirms v t place x) (says none v)) (λ n. h)
-    (λ i lt g. let x = get_or v.transfers i blank_transfer in cond_cases {X = After (Option Bool) View} (λ a. P a.state) (is_outstanding t words x) (confirms v t i x) (says none v) (k i lt) (λ e. h))
+    seek_cases {X = After (Option Bool) View} (λ a. P a.state) (of_generation t.generation) v.transfers (says None v) (λ place x. cond (is_outstanding t words x) (confirms v t place x) (says None v)) (λ n. h)
+    (λ i lt g. let x = get_or v.transfers i blank_transfer in cond_cases {X = After (Option Bool) View} (λ a. P a.state) (is_outstanding t words x) (confirms v t i x) (says None v) (k i lt) (λ e. h))
 
 -- what `status` does after its first `advance`: nothing, or a transfer observes it, and the sender is walked
 pub status_cases : (P : View → Type 0) (v : View) (s : ArqStatus) → P v
@@ -521,14 +519,14 @@ events_kept v l n h =
 -- ---- enqueue
 
 -- the lowest n is no live transfer's, and is at most how many there are
-pub lowest_free : (tries k : ℕ) (l : List Transfer) → ((j : ℕ) → j < k → Some (λ x. x.parcel.n ≡ j) l) → length l < k + tries → (lowest_from tries k l ≤ length l) × All (λ x. lowest_from tries k l ≢ x.parcel.n) l
+pub lowest_free : (tries k : ℕ) (l : List Transfer) → ((j : ℕ) → j < k → Any (λ x. x.parcel.n ≡ j) l) → length l < k + tries → (lowest_from tries k l ≤ length l) × All (λ x. lowest_from tries k l ≢ x.parcel.n) l
 lowest_free zero k l h lt = let p = pigeon (λ (x : Transfer). x.parcel.n) k l h in absurd (omega arith)
 lowest_free (suc tries) k l h lt = go (any test l) refl (λ q. lowest_free tries (suc k) l q (omega arith))
   where
     test : Transfer → Bool
     test x = eqb x.parcel.n k
 
-    go : (b : Bool) → any test l ≡ b → (((j : ℕ) → j < suc k → Some (λ x. x.parcel.n ≡ j) l) → (lowest_from tries (suc k) l ≤ length l) × All (λ x. lowest_from tries (suc k) l ≢ x.parcel.n) l)
+    go : (b : Bool) → any test l ≡ b → (((j : ℕ) → j < suc k → Any (λ x. x.parcel.n ≡ j) l) → (lowest_from tries (suc k) l ≤ length l) × All (λ x. lowest_from tries (suc k) l ≢ x.parcel.n) l)
         → (cond b (lowest_from tries (suc k) l) k ≤ length l) × All (λ x. cond b (lowest_from tries (suc k) l) k ≢ x.parcel.n) l
     go true e f =
         f
@@ -556,7 +554,7 @@ pub record Proper (l : Limits) (c : Clock) (e : Echoes) (r : Request) (message :
   pub frames : g.frames ≡ 1 + continues r.identity (length message)
   pub usable : l.startup_until_block ≤ c.last_block
   pub fits : held_until l r.deadline_ms ≤ stop
-  pub echo : free_echo e c.last_ms ≡ some g.echo
+  pub echo : free_echo e c.last_ms ≡ Some g.echo
 
 -- what a request that is granted has passed
 pub record Passes (v : View) (r : Request) (message : List ℕ) (g : Grant) : Type 0 where
@@ -572,11 +570,11 @@ pub record Welcomes (v : View) (r : Request) (message : List ℕ) (g : Grant) : 
   pub accounted : length v.transfers + length v.events < 2 * v.limits.capacity
   pub counter : v.next_token < stop
 
-granted_gives : (frames : ℕ) (o : Option ℕ) (g : Grant) → granted frames o ≡ gives g → (frames ≡ g.frames) × (o ≡ some g.echo)
-granted_gives frames none g e = let z : ◌≡◌ {A = ℕ} 0 1 = cc in absurd (omega arith)
-granted_gives frames (some echo) g e =
+granted_gives : (frames : ℕ) (o : Option ℕ) (g : Grant) → granted frames o ≡ gives g → (frames ≡ g.frames) × (o ≡ Some g.echo)
+granted_gives frames None g e = let z : ◌≡◌ {A = ℕ} 0 1 = cc in absurd (omega arith)
+granted_gives frames (Some echo) g e =
     let z : ◌≡◌ {A = Grant} (record { frames = frames; echo = echo }) g = cc in
-    (ap (λ (x : Grant). x.frames) z, ap (λ (x : Grant). some x.echo) z)
+    (ap (λ (x : Grant). x.frames) z, ap (λ (x : Grant). Some x.echo) z)
 
 -- no refusal of `enqueue` stands then
 pub grant_passes : (v : View) (r : Request) (message : List ℕ) {g : Grant} → grant_of v r message ≡ gives g → Passes v r message g

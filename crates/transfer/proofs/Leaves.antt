@@ -6,7 +6,7 @@ use mathlib.Core.Path.{◌≡◌, refl, sym, ap, ◌∙◌}
 use mathlib.Core.Logic.{◌≢◌, ◌⊎◌, inl, inr, ⊎_elim}
 use mathlib.Core.Bool.{Bool, true, false, cond, not, ◌&&◌, ◌||◌}
 use mathlib.Core.List.{List, [], ◌∷◌, ◌++◌, map, foldl}
-use mathlib.Core.Option.{Option, none, some}
+use Rattle.std.specs.Prelude.{Option, None, Some}
 use Prim.Native.Nat.{ℕ, suc, ◌+◌, ◌-◌, ◌*◌, ◌%◌, ◌≤◌, ◌<◌}
 use native.Mathlib.Omega.{arith}
 use lib.Bits.{bit_or}
@@ -120,7 +120,7 @@ or-true false t h = ⊎_elim (λ p. absurd (true_false {x = false} p refl)) (λ 
 -- a capacity of 1 to 128 is accepted, with any guard, first usable block and first token: no transfer, no event, every echo free, both clocks at 0
 pub new_exactly : (capacity guard first_block first : ℕ) → 1 ≤ capacity → capacity ≤ 128
     → new_of capacity guard first_block first
-    ≡ gives (view (record { capacity = capacity; startup_until_block = first_block; echo_guard_ms = guard }) (record { last_block = 0; last_ms = 0 }) [] [] (record { echo_until_ms = replicate 128 0; next_echo = 0 }) none first)
+    ≡ gives (view (record { capacity = capacity; startup_until_block = first_block; echo_guard_ms = guard }) (record { last_block = 0; last_ms = 0 }) [] [] (record { echo_until_ms = replicate 128 0; next_echo = 0 }) None first)
 unfolding new_of
 new_exactly capacity guard first_block first least most = through (eqb capacity 0 || ltb 128 capacity) 19 _ (or-false _ _ (ne_eqb capacity 0 (λ e. omega arith)) (le-ltb 128 capacity most))
 
@@ -317,13 +317,13 @@ module _ (l : Limits) (c : Clock) (es : List Event) (e : Echoes) (s : Option Pre
 
     -- else, asked for or due, with an echo free: begun again under it, behind those before it
     pub step_restarts : (echo : ℕ) → leb x.parcel.deadline_ms c.last_ms ≡ false → done_of x ≡ false → (asked || restart_due c.last_block (settle_of c.last_block x)) ≡ true
-        → free_echo e c.last_ms ≡ some echo
+        → free_echo e c.last_ms ≡ Some echo
         → step (view l c ts es e s n) (asked, x) ≡ view l c (ts ++ begun x.parcel echo n ∷ []) es (held l e echo x.parcel.deadline_ms) (unselect x.generation s) (number_after n)
     step_restarts echo o d r f = restarts o d r ∙ ap (λ (q : Option ℕ). restart (view l c ts es e s n) x q) f
 
     -- with none free: Failed
     pub step_fails : leb x.parcel.deadline_ms c.last_ms ≡ false → done_of x ≡ false → (asked || restart_due c.last_block (settle_of c.last_block x)) ≡ true
-        → free_echo e c.last_ms ≡ none
+        → free_echo e c.last_ms ≡ None
         → step (view l c ts es e s n) (asked, x) ≡ view l c ts (es ++ Failed x.parcel.completion EchoExhausted ∷ []) e (unselect x.generation s) n
     step_fails o d r f = restarts o d r ∙ ap (λ (q : Option ℕ). restart (view l c ts es e s n) x q) f
 
@@ -346,20 +346,20 @@ module _ (l : Limits) (c : Clock) (es : List Event) (e : Echoes) (s : Option Pre
     -- the transfer goes to the front, the others keep their order, a selected frame of another echo is dropped; if it has a frame queued then, the
     -- call goes on as `prepare` does
     fronts : (octets : List ℕ) (t : Bool) → is_ready (repeated x) ≡ t
-        → let w = view l c (repeated x ∷ (a ++ b)) es e (only_echo echo s) n in prioritize_at (view l c (a ++ x ∷ b) es e s n) octets echo ≡ cond t (choose w octets) (says none w)
+        → let w = view l c (repeated x ∷ (a ++ b)) es e (only_echo echo s) n in prioritize_at (view l c (a ++ x ∷ b) es e s n) octets echo ≡ cond t (choose w octets) (says None w)
     unfolding prioritize_at
     fronts octets t r =
         let v = view l c (a ++ x ∷ b) es e s n in
         let w : List Transfer → View = λ ts. view l c (repeated x ∷ ts) es e (only_echo echo s) n in
-        seek_found (of_echo echo) (says none v) (prioritized v octets echo) a x b (all_map (λ y d. ne_eqb y.echo echo d) h) (eq-eqb x.echo echo q)
-        ∙ (ap (λ (ts : List Transfer). cond (is_ready (repeated x)) (choose (w ts) octets) (says none (w ts))) (removed_end a x b)
-        ∙ ap (λ (t : Bool). cond t (choose (w (a ++ b)) octets) (says none (w (a ++ b)))) r)
+        seek_found (of_echo echo) (says None v) (prioritized v octets echo) a x b (all_map (λ y d. ne_eqb y.echo echo d) h) (eq-eqb x.echo echo q)
+        ∙ (ap (λ (ts : List Transfer). cond (is_ready (repeated x)) (choose (w ts) octets) (says None (w ts))) (removed_end a x b)
+        ∙ ap (λ (t : Bool). cond t (choose (w (a ++ b)) octets) (says None (w (a ++ b)))) r)
 
     pub prioritizes : (octets : List ℕ) → (repeated x).sets.queue ≢ 0 → prioritize_at (view l c (a ++ x ∷ b) es e s n) octets echo ≡ choose (view l c (repeated x ∷ (a ++ b)) es e (only_echo echo s) n) octets
     prioritizes octets r = fronts octets true (ap not (ne_eqb (repeated x).sets.queue 0 r))
 
     pub prioritizes_idle : (octets : List ℕ) → (repeated x).sets.queue ≡ 0
-        → prioritize_at (view l c (a ++ x ∷ b) es e s n) octets echo ≡ record { outcome = gives none; state = view l c (repeated x ∷ (a ++ b)) es e (only_echo echo s) n }
+        → prioritize_at (view l c (a ++ x ∷ b) es e s n) octets echo ≡ record { outcome = gives None; state = view l c (repeated x ∷ (a ++ b)) es e (only_echo echo s) n }
     prioritizes_idle octets r = fronts octets false (ap not (eq-eqb (repeated x).sets.queue 0 r))
 
   -- an echo that no live transfer has: nothing changes
@@ -368,11 +368,11 @@ module _ (l : Limits) (c : Clock) (es : List Event) (e : Echoes) (s : Option Pre
       let v = view l c ts es e s n in
       pick_false (says true (walk v (asked_for echo ts))) (says false v) (any_nowhere (of_echo echo) ts (all_map (λ y d. ne_eqb y.echo echo d) h))
 
-  pub prioritizes_unknown : (octets : List ℕ) (echo : ℕ) (ts : List Transfer) → All (λ y. y.echo ≢ echo) ts → prioritize_at (view l c ts es e s n) octets echo ≡ record { outcome = gives none; state = view l c ts es e s n }
+  pub prioritizes_unknown : (octets : List ℕ) (echo : ℕ) (ts : List Transfer) → All (λ y. y.echo ≢ echo) ts → prioritize_at (view l c ts es e s n) octets echo ≡ record { outcome = gives None; state = view l c ts es e s n }
   unfolding prioritize_at
   prioritizes_unknown octets echo ts h =
       let v = view l c ts es e s n in
-      seek_none (of_echo echo) (says none v) (prioritized v octets echo) ts (all_map (λ y d. ne_eqb y.echo echo d) h)
+      seek_none (of_echo echo) (says None v) (prioritized v octets echo) ts (all_map (λ y d. ne_eqb y.echo echo d) h)
 
   -- ---- cancel, cancel_transaction, cancel_all
 
@@ -408,29 +408,29 @@ module _ (l : Limits) (c : Clock) (es : List Event) (e : Echoes) (s : Option Pre
   cancels_transaction t a x b h q = cancel_found (owned_by t) a x b (all_map (λ y d. ne_eqb y.parcel.owner.0 t.0 d) h) (eq-eqb x.parcel.owner.0 t.0 q)
 
   -- all are Cancelled, in their order, and nothing is selected
-  pub cancels_all : (ts : List Transfer) → cancel_all_of (view l c ts es e s n) ≡ view l c [] (es ++ map (λ x. Cancelled x.parcel.completion) ts) e none n
+  pub cancels_all : (ts : List Transfer) → cancel_all_of (view l c ts es e s n) ≡ view l c [] (es ++ map (λ x. Cancelled x.parcel.completion) ts) e None n
   unfolding cancel_all_of
   cancels_all ts = refl
 
   -- ---- identity_for_echo, pop_event
 
   pub identity_for_echo : (echo : ℕ) (a : List Transfer) (x : Transfer) (b : List Transfer) → All (λ y. y.echo ≢ echo) a → x.echo ≡ echo
-      → identity_for_echo_of (view l c (a ++ x ∷ b) es e s n) echo ≡ some x.parcel.identity
+      → identity_for_echo_of (view l c (a ++ x ∷ b) es e s n) echo ≡ Some x.parcel.identity
   unfolding identity_for_echo_of
   identity_for_echo echo a x b h q =
-      seek_found (of_echo echo) none (λ place y. some y.parcel.identity) a x b (all_map (λ y d. ne_eqb y.echo echo d) h) (eq-eqb x.echo echo q)
+      seek_found (of_echo echo) None (λ place y. Some y.parcel.identity) a x b (all_map (λ y d. ne_eqb y.echo echo d) h) (eq-eqb x.echo echo q)
 
-  pub identity_for_none : (echo : ℕ) (ts : List Transfer) → All (λ y. y.echo ≢ echo) ts → identity_for_echo_of (view l c ts es e s n) echo ≡ none
+  pub identity_for_none : (echo : ℕ) (ts : List Transfer) → All (λ y. y.echo ≢ echo) ts → identity_for_echo_of (view l c ts es e s n) echo ≡ None
   unfolding identity_for_echo_of
-  identity_for_none echo ts h = seek_none (of_echo echo) none (λ place y. some y.parcel.identity) ts (all_map (λ y d. ne_eqb y.echo echo d) h)
+  identity_for_none echo ts h = seek_none (of_echo echo) None (λ place y. Some y.parcel.identity) ts (all_map (λ y d. ne_eqb y.echo echo d) h)
 
   -- the event that waits longest is told and taken; the others keep their order, and nothing else changes
-  pub pops : (ts : List Transfer) (x : Event) (later : List Event) → pop_event_of (view l c ts (x ∷ later) e s n) ≡ record { outcome = gives (some (ending_of x)); state = view l c ts later e s n }
+  pub pops : (ts : List Transfer) (x : Event) (later : List Event) → pop_event_of (view l c ts (x ∷ later) e s n) ≡ record { outcome = gives (Some (ending_of x)); state = view l c ts later e s n }
   unfolding pop_event_of
   pops ts x later = refl
 
   -- with none waiting nothing is told, and nothing changes
-  pub pops_none : (ts : List Transfer) → pop_event_of (view l c ts [] e s n) ≡ record { outcome = gives none; state = view l c ts [] e s n }
+  pub pops_none : (ts : List Transfer) → pop_event_of (view l c ts [] e s n) ≡ record { outcome = gives None; state = view l c ts [] e s n }
   unfolding pop_event_of
   pops_none ts = refl
 
@@ -441,7 +441,7 @@ module _ (l : Limits) (c : Clock) (es : List Event) (e : Echoes) (s : Option Pre
       → (submitted_at (view l c (a ++ x ∷ b) es e s n) m t).outcome ≡ gives tt
       → submitted_at (view l c (a ++ x ∷ b) es e s n) m t ≡ record {
         outcome = gives tt;
-        sender = view l c ((a ++ b) ++ in_flight_lem t.frame c.last_block x ∷ []) es e none n;
+        sender = view l c ((a ++ b) ++ in_flight_lem t.frame c.last_block x ∷ []) es e None n;
         lent = record { octets = m.octets; words = set m.words (27 * x.parcel.n + t.frame) t.submission.0 };
       }
   unfolding submitted_at
@@ -454,7 +454,7 @@ module _ (l : Limits) (c : Clock) (es : List Event) (e : Echoes) (s : Option Pre
       let three = passes v m (is_ready x && eqb (front x.sets.queue) t.frame) (handed_in v m t (length a) x) (sym (ap (λ (u : Out Unit). u.outcome) (one ∙ two)) ∙ o) in
       one ∙ (two ∙ (three ∙ ap (λ (ts : List Transfer). record {
         outcome = gives tt;
-        sender = view l c (ts ++ in_flight_lem t.frame c.last_block x ∷ []) es e none n;
+        sender = view l c (ts ++ in_flight_lem t.frame c.last_block x ∷ []) es e None n;
         lent = record { octets = m.octets; words = set m.words (27 * x.parcel.n + t.frame) t.submission.0 };
       }) (removed_end a x b)))
 
@@ -467,28 +467,28 @@ module _ (l : Limits) (c : Clock) (es : List Event) (e : Echoes) (s : Option Pre
 
     -- a frame that is outstanding is confirmed in its place, told whether all are transmitted now; then `advance`
     pub transmits : (words : List ℕ) → is_outstanding t words x ≡ true → transmitted_at (view l c (a ++ x ∷ b) es e s n) words t ≡ record {
-      outcome = gives (some (eqb (ones (with_bit x.sets.transmitted t.frame)) x.parcel.frames));
+      outcome = gives (Some (eqb (ones (with_bit x.sets.transmitted t.frame)) x.parcel.frames));
       state = walked (view l c (a ++ confirm_frame t.frame x ∷ b) es e s n);
     }
     unfolding transmitted_at
     transmits words o =
         let v = view l c (a ++ x ∷ b) es e s n in
-        let told : View → After (Option Bool) View = λ w. record { outcome = gives (some (eqb (ones (with_bit x.sets.transmitted t.frame)) x.parcel.frames)); state = walked w } in
-        of-generation (says none v) (λ place y. cond (is_outstanding t words y) (confirms v t place y) (says none v))
-        ∙ (pick_true (confirms v t (length a) x) (says none v) o
+        let told : View → After (Option Bool) View = λ w. record { outcome = gives (Some (eqb (ones (with_bit x.sets.transmitted t.frame)) x.parcel.frames)); state = walked w } in
+        of-generation (says None v) (λ place y. cond (is_outstanding t words y) (confirms v t place y) (says None v))
+        ∙ (pick_true (confirms v t (length a) x) (says None v) o
         ∙ ap (λ (ts : List Transfer). told (view l c ts es e s n)) (set_at a x b (confirm_frame t.frame x) (length a) refl))
 
     -- the completion is told in full, once as many frames as there are went out, whatever the token's submission and frame
     pub tells_message : submitted_message_of (view l c (a ++ x ∷ b) es e s n) t
-        ≡ cond (eqb (ones (bit_or x.sets.transmitted x.sets.in_flight)) x.parcel.frames) (some x.parcel.completion) none
+        ≡ cond (eqb (ones (bit_or x.sets.transmitted x.sets.in_flight)) x.parcel.frames) (Some x.parcel.completion) None
     unfolding submitted_message_of
-    tells_message = of-generation none (λ place y. cond (eqb (ones (bit_or y.sets.transmitted y.sets.in_flight)) y.parcel.frames) (some y.parcel.completion) none)
+    tells_message = of-generation None (λ place y. cond (eqb (ones (bit_or y.sets.transmitted y.sets.in_flight)) y.parcel.frames) (Some y.parcel.completion) None)
 
   -- of a generation that no live transfer has, nothing
-  pub tells_no_message : (t : FrameToken) (ts : List Transfer) → All (λ y. y.generation.0 ≢ t.generation.0) ts → submitted_message_of (view l c ts es e s n) t ≡ none
+  pub tells_no_message : (t : FrameToken) (ts : List Transfer) → All (λ y. y.generation.0 ≢ t.generation.0) ts → submitted_message_of (view l c ts es e s n) t ≡ None
   unfolding submitted_message_of
   tells_no_message t ts h =
-      seek_none (of_generation t.generation) none (λ place y. cond (eqb (ones (bit_or y.sets.transmitted y.sets.in_flight)) y.parcel.frames) (some y.parcel.completion) none)
+      seek_none (of_generation t.generation) None (λ place y. cond (eqb (ones (bit_or y.sets.transmitted y.sets.in_flight)) y.parcel.frames) (Some y.parcel.completion) None)
       ts (all_map (λ y d. ne_eqb y.generation.0 t.generation.0 d) h)
 
   -- ---- status
@@ -537,19 +537,19 @@ module _ (l : Limits) (c : Clock) (es : List Event) (e : Echoes) (n : ℕ) (octe
         token = record { generation = x.generation; submission = record { 0 = n }; frame = count_trailing_zeros 32 x.sets.queue };
         partial_echo = x.echo;
       } in
-      choose (view l c (a ++ x ∷ b) es e none n) octets ≡ record { outcome = gives (some f); state = view l c (a ++ x ∷ b) es e (some f) (number_after n) }
+      choose (view l c (a ++ x ∷ b) es e None n) octets ≡ record { outcome = gives (Some f); state = view l c (a ++ x ∷ b) es e (Some f) (number_after n) }
   unfolding choose
   chooses a x b p h q g =
-      let v = view l c (a ++ x ∷ b) es e none n in
-      seek_found is_ready (says none v) (λ place y. selects v y (front_of y octets)) a x b (all_map (λ y d. ap not (eq-eqb y.sets.queue 0 d)) h) (ap not (ne_eqb x.sets.queue 0 q)) ∙ ap (selects v x) g
+      let v = view l c (a ++ x ∷ b) es e None n in
+      seek_found is_ready (says None v) (λ place y. selects v y (front_of y octets)) a x b (all_map (λ y d. ap not (eq-eqb y.sets.queue 0 d)) h) (ap not (ne_eqb x.sets.queue 0 q)) ∙ ap (selects v x) g
 
   -- with none queued, no frame, and nothing changes
-  pub chooses_none : (ts : List Transfer) → All (λ y. y.sets.queue ≡ 0) ts → choose (view l c ts es e none n) octets ≡ record { outcome = gives none; state = view l c ts es e none n }
+  pub chooses_none : (ts : List Transfer) → All (λ y. y.sets.queue ≡ 0) ts → choose (view l c ts es e None n) octets ≡ record { outcome = gives None; state = view l c ts es e None n }
   unfolding choose
-  chooses_none ts h = let v = view l c ts es e none n in seek_none is_ready (says none v) (λ place y. selects v y (front_of y octets)) ts (all_map (λ y d. ap not (eq-eqb y.sets.queue 0 d)) h)
+  chooses_none ts h = let v = view l c ts es e None n in seek_none is_ready (says None v) (λ place y. selects v y (front_of y octets)) ts (all_map (λ y d. ap not (eq-eqb y.sets.queue 0 d)) h)
 
   -- a selected frame is told as it is, and nothing changes
-  pub chooses_selected : (ts : List Transfer) (f : PreparedFrame) → choose (view l c ts es e (some f) n) octets ≡ record { outcome = gives (some f); state = view l c ts es e (some f) n }
+  pub chooses_selected : (ts : List Transfer) (f : PreparedFrame) → choose (view l c ts es e (Some f) n) octets ≡ record { outcome = gives (Some f); state = view l c ts es e (Some f) n }
   unfolding choose
   chooses_selected ts f = refl
 
@@ -583,7 +583,7 @@ submitted_refused v m t k =
 
 -- a frame that is not in flight under its submission: not found, and nothing changes
 pub transmitted_unknown : (v : View) (words : List ℕ) (t : FrameToken) → All (λ y. y.generation.0 ≡ t.generation.0 → is_outstanding t words y ≡ false) v.transfers
-    → transmitted_at v words t ≡ record { outcome = gives none; state = v }
+    → transmitted_at v words t ≡ record { outcome = gives None; state = v }
 unfolding transmitted_at
 transmitted_unknown v words t h = go (ltb i (length l)) refl
   where
@@ -596,18 +596,18 @@ transmitted_unknown v words t h = go (ltb i (length l)) refl
     x : Transfer
     x = get_or l i blank_transfer
 
-    go : (b : Bool) → ltb i (length l) ≡ b → cond b (cond (is_outstanding t words x) (confirms v t i x) (says none v)) (says none v) ≡ says none v
+    go : (b : Bool) → ltb i (length l) ≡ b → cond b (cond (is_outstanding t words x) (confirms v t i x) (says None v)) (says None v) ≡ says None v
     go true q =
         let lt = ltb-true i (length l) q in
-        pick_false (confirms v t i x) (says none v) (all-at l i blank_transfer lt h (eqb-true x.generation.0 t.generation.0 (position-found (of_generation t.generation) blank_transfer l lt)))
+        pick_false (confirms v t i x) (says None v) (all-at l i blank_transfer lt h (eqb-true x.generation.0 t.generation.0 (position-found (of_generation t.generation) blank_transfer l lt)))
     go false q = refl
 
 -- ---- enqueue: its refusals
 
 -- no echo is free
 abbrev is_none : Option ℕ → Bool
-is_none none = true
-is_none (some k) = false
+is_none None = true
+is_none (Some k) = false
 
 -- *Enqueue*, once 16, 18 and 22 are passed: events at capacity 20; deadline not after now 23; empty 1; no transfer replaced and transfers at capacity 20; over
 -- 255 octets 1; Pch 3; identity 2; before the first block 21; deadline plus guard over 64 bits 23; no echo free 21
@@ -656,8 +656,8 @@ enqueue_refuses v r message =
     given = allocated v.limits v.clock v.echoes r.deadline_ms
 
     free : (o : Option ℕ) → said (granted count o) ≡ refuse (is_none o) 21 (gives tt)
-    free none = refl
-    free (some k) = refl
+    free None = refl
+    free (Some k) = refl
 
     rest : said (given count) ≡ refuse (ltb v.clock.last_block v.limits.startup_until_block) 21 (refuse (ltb stop (r.deadline_ms + v.limits.echo_guard_ms)) 23 (refuse (is_none (free_echo v.echoes v.clock.last_ms)) 21 (gives tt)))
     rest =
@@ -690,7 +690,7 @@ enqueue_refused v m r message block now k octets words tokens later on q =
 
 -- a request that is granted: as many frames as the cut has, under the first free echo of the search
 pub enqueue_grants : (v : View) (r : Request) (message : List ℕ) (g : Grant) → grant_of v r message ≡ gives g
-    → (g.frames ≡ 1 + continues r.identity (length message)) × (free_echo v.echoes v.clock.last_ms ≡ some g.echo)
+    → (g.frames ≡ 1 + continues r.identity (length message)) × (free_echo v.echoes v.clock.last_ms ≡ Some g.echo)
 enqueue_grants v r message g q = let p = (grant_passes v r message q).proper in (p.frames, p.echo)
 
 -- the new transfer at the back of what a sender is without the replaced one

@@ -23,6 +23,7 @@ pub mod Misled
 pub mod Moves
 pub mod Once
 pub mod Orders
+pub mod Placed
 pub mod Queues
 pub mod Readings
 pub mod Refusals
@@ -31,5 +32,6 @@ pub mod Searches
 pub mod Settled
 pub mod Stored
 pub mod Taken
+pub mod Tied
 pub mod Walked
 pub mod Witness

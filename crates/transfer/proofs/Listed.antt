@@ -8,7 +8,7 @@ use native.Mathlib.Omega.{arith}
 use lib.ListN.{length, take, drop, get_or}
 use lib.Seq.{split_at}
 use Rattle.transfer.specs.Lists.{position, any, remove_at, push_back}
-use Rattle.transfer.specs.Invariant.{All, all_none, all_more, Some, some-here, some-later, Pairs, pairs-none, pairs-more}
+use Rattle.transfer.specs.Invariant.{All, all_none, all_more, Any, any-here, any-later, Pairs, pairs-none, pairs-more}
 
 -- ---- every element
 
@@ -61,48 +61,48 @@ module _ {A : Type 0} where
   -- ---- some element
 
   -- what it implies
-  pub some-map : {P Q : A → Type 0} {l : List A} → ((x : A) → P x → Q x) → Some P l → Some Q l
-  some-map f (some-here {x = x} p) = some-here (f x p)
-  some-map f (some-later h) = some-later (some-map f h)
+  pub some-map : {P Q : A → Type 0} {l : List A} → ((x : A) → P x → Q x) → Any P l → Any Q l
+  some-map f (any-here {x = x} p) = any-here (f x p)
+  some-map f (any-later h) = any-later (some-map f h)
 
   -- it stands in the first part
-  pub some_left : {P : A → Type 0} (a b : List A) → Some P a → Some P (a ++ b)
-  some_left a b (some-here p) = some-here p
-  some_left a b (some-later {l = l} h) = some-later (some_left l b h)
+  pub some_left : {P : A → Type 0} (a b : List A) → Any P a → Any P (a ++ b)
+  some_left a b (any-here p) = any-here p
+  some_left a b (any-later {l = l} h) = any-later (some_left l b h)
 
   -- or in the second
-  pub some_right : {P : A → Type 0} (a b : List A) → Some P b → Some P (a ++ b)
+  pub some_right : {P : A → Type 0} (a b : List A) → Any P b → Any P (a ++ b)
   some_right [] b h = h
-  some_right (x ∷ a) b h = some-later (some_right a b h)
+  some_right (x ∷ a) b h = any-later (some_right a b h)
 
   -- it is the first, or a later one
-  pub some_cons : {P : A → Type 0} {x : A} {l : List A} → Some P (x ∷ l) → P x ⊎ Some P l
-  some_cons (some-here p) = inl p
-  some_cons (some-later h) = inr h
+  pub some_cons : {P : A → Type 0} {x : A} {l : List A} → Any P (x ∷ l) → P x ⊎ Any P l
+  some_cons (any-here p) = inl p
+  some_cons (any-later h) = inr h
 
   -- one taken out: it was that one, or it is there still
-  pub some_out : {P : A → Type 0} (a : List A) (x : A) (b : List A) → Some P (a ++ x ∷ b) → P x ⊎ Some P (a ++ b)
+  pub some_out : {P : A → Type 0} (a : List A) (x : A) (b : List A) → Any P (a ++ x ∷ b) → P x ⊎ Any P (a ++ b)
   some_out [] x b h = some_cons h
-  some_out (y ∷ a) x b h = ⊎_elim (λ p. inr (some-here p)) (λ k. ⊎_elim inl (λ m. inr (some-later m)) (some_out a x b k)) (some_cons h)
+  some_out (y ∷ a) x b h = ⊎_elim (λ p. inr (any-here p)) (λ k. ⊎_elim inl (λ m. inr (any-later m)) (some_out a x b k)) (some_cons h)
 
   -- one put in
-  pub some_one : {P : A → Type 0} (a : List A) (x : A) (b : List A) → P x → Some P (a ++ x ∷ b)
-  some_one a x b p = some_right a (x ∷ b) (some-here p)
+  pub some_one : {P : A → Type 0} (a : List A) (x : A) (b : List A) → P x → Any P (a ++ x ∷ b)
+  some_one a x b p = some_right a (x ∷ b) (any-here p)
 
   -- and it stands there still
-  pub some_in : {P : A → Type 0} (a : List A) (x : A) (b : List A) → Some P (a ++ b) → Some P (a ++ x ∷ b)
-  some_in [] x b h = some-later h
-  some_in (y ∷ a) x b h = ⊎_elim (λ p. some-here p) (λ k. some-later (some_in a x b k)) (some_cons h)
+  pub some_in : {P : A → Type 0} (a : List A) (x : A) (b : List A) → Any P (a ++ b) → Any P (a ++ x ∷ b)
+  some_in [] x b h = any-later h
+  some_in (y ∷ a) x b h = ⊎_elim (λ p. any-here p) (λ k. any-later (some_in a x b k)) (some_cons h)
 
   -- one and the rest: what some element implies with a fact of every
-  pub some_all : {P Q : A → Type 0} {B : Type 0} {l : List A} → ((x : A) → P x → Q x → B) → Some P l → All Q l → B
-  some_all f (some-here {x = x} p) k = f x p (all_head k)
-  some_all f (some-later h) k = some_all f h (all_tail k)
+  pub some_all : {P Q : A → Type 0} {B : Type 0} {l : List A} → ((x : A) → P x → Q x → B) → Any P l → All Q l → B
+  some_all f (any-here {x = x} p) k = f x p (all_head k)
+  some_all f (any-later h) k = some_all f h (all_tail k)
 
   -- where it stands
-  pub some_split : {P : A → Type 0} {l : List A} → Some P l → (a : List A) × (x : A) × (b : List A) × (l ≡ a ++ x ∷ b) × P x
-  some_split (some-here {x = x} {l = l} p) = ([], x, l, refl, p)
-  some_split (some-later {x = y} h) = let s = some_split h in (y ∷ s.0, s.1, s.2, ap (λ (l : List A). y ∷ l) s.3, s.4)
+  pub some_split : {P : A → Type 0} {l : List A} → Any P l → (a : List A) × (x : A) × (b : List A) × (l ≡ a ++ x ∷ b) × P x
+  some_split (any-here {x = x} {l = l} p) = ([], x, l, refl, p)
+  some_split (any-later {x = y} h) = let s = some_split h in (y ∷ s.0, s.1, s.2, ap (λ (l : List A). y ∷ l) s.3, s.4)
 
   -- ---- every two
 
@@ -175,8 +175,8 @@ module _ {A : Type 0} where
     all_removed {P} k = all_rest (take i l) (get_or l i d) (drop (suc i) l) (subst (All P) (split_at l i d h) k)
 
     -- it is the one at the place, or one of the others
-    pub some_removed : {P : A → Type 0} → Some P l → P (get_or l i d) ⊎ Some P (remove_at i l)
-    some_removed {P} k = some_out (take i l) (get_or l i d) (drop (suc i) l) (subst (Some P) (split_at l i d h) k)
+    pub some_removed : {P : A → Type 0} → Any P l → P (get_or l i d) ⊎ Any P (remove_at i l)
+    some_removed {P} k = some_out (take i l) (get_or l i d) (drop (suc i) l) (subst (Any P) (split_at l i d h) k)
 
     -- the one at the place with every other
     pub pairs-at : {R : A → A → Type 0} → ((x y : A) → R x y → R y x) → Pairs R l → All (R (get_or l i d)) (remove_at i l)
@@ -208,13 +208,13 @@ module _ {A : Type 0} where
       go false q e f = all_more q (f e)
 
   -- some passes
-  pub any-true : (p : A → Bool) (l : List A) → any p l ≡ true → Some (λ x. p x ≡ true) l
+  pub any-true : (p : A → Bool) (l : List A) → any p l ≡ true → Any (λ x. p x ≡ true) l
   any-true p [] e = let z : ◌≡◌ {A = ℕ} 0 1 = cc in absurd (omega arith)
   any-true p (x ∷ l) e = go (p x) refl e (any-true p l)
     where
-      go : (b : Bool) → p x ≡ b → (b || any p l) ≡ true → (any p l ≡ true → Some (λ x. p x ≡ true) l) → Some (λ x. p x ≡ true) (x ∷ l)
-      go true q e f = some-here q
-      go false q e f = some-later (f e)
+      go : (b : Bool) → p x ≡ b → (b || any p l) ≡ true → (any p l ≡ true → Any (λ x. p x ≡ true) l) → Any (λ x. p x ≡ true) (x ∷ l)
+      go true q e f = any-here q
+      go false q e f = any-later (f e)
 
   -- a search in vain
   pub position-none : (p : A → Bool) (l : List A) → length l ≤ position p l → All (λ x. p x ≡ false) l
@@ -247,7 +247,7 @@ module _ {A : Type 0} where
   -- ---- as many as there are numbers
 
   -- k numbers, each that of some element: there are k elements
-  pub pigeon : (f : A → ℕ) (k : ℕ) (l : List A) → ((j : ℕ) → j < k → Some (λ x. f x ≡ j) l) → k ≤ length l
+  pub pigeon : (f : A → ℕ) (k : ℕ) (l : List A) → ((j : ℕ) → j < k → Any (λ x. f x ≡ j) l) → k ≤ length l
   pigeon f zero l h = omega arith
   pigeon f (suc k) l h =
       let s = some_split (h k (omega arith)) in
@@ -257,5 +257,5 @@ module _ {A : Type 0} where
       let e : l ≡ a ++ x ∷ b = s.3 in
       let q : f x ≡ k = s.4 in
       let n : length l ≡ suc (length (a ++ b)) = ap length e ∙ length_in a x b in
-      let r = pigeon f k (a ++ b) (λ j m. ⊎_elim (λ (w : f x ≡ j). absurd (omega arith)) (λ w. w) (some_out a x b (subst (Some (λ y. f y ≡ j)) e (h j (omega arith))))) in
+      let r = pigeon f k (a ++ b) (λ j m. ⊎_elim (λ (w : f x ≡ j). absurd (omega arith)) (λ w. w) (some_out a x b (subst (Any (λ y. f y ≡ j)) e (h j (omega arith))))) in
       omega arith

@@ -3,7 +3,7 @@ use mathlib.Core.Logic.{⊎_elim}
 use mathlib.Core.Path.{◌≡◌, refl, sym, ap, ap₂, subst, ◌∙◌}
 use mathlib.Core.Bool.{Bool, true, false, cond, not, ◌&&◌, ◌||◌, true≢false, or-false, and-false}
 use mathlib.Core.List.{List, [], ◌∷◌, map, foldl}
-use mathlib.Core.Option.{Option, none, some}
+use Rattle.std.specs.Prelude.{Option, None, Some}
 use Prim.Native.Nat.{ℕ, zero, suc, ◌+◌, ◌-◌, ◌/◌, ◌%◌, ◌^◌, ◌≤◌, ◌<◌}
 use native.Mathlib.Omega.{arith}
 use lib.Bits.{bit_and, bit_or, or_lt}
@@ -30,7 +30,6 @@ use Rattle.transfer.specs.declared.FrameToken.{FrameToken}
 use Rattle.transfer.specs.declared.Parcel.{Parcel}
 use Rattle.transfer.specs.declared.PreparedFrame.{PreparedFrame}
 use Rattle.transfer.specs.declared.Request.{Request}
-use Rattle.transfer.specs.declared.Since.TheVariants.{Never, Block}
 use Rattle.transfer.specs.declared.Transfer.{Transfer}
 use Rattle.transfer.specs.declared.TransferToken.{TransferToken}
 use Rattle.transfer.specs.Lists.{position, any, remove_at}
@@ -234,7 +233,7 @@ observes-literal map block x s most = ap seen (same_frames (set_where n test o) 
     seen : ℕ → Transfer
     seen q =
         altered x (record { queue = x.sets.queue; in_flight = x.sets.in_flight; transmitted = x.sets.transmitted; observed = q; received_status = true })
-        (record { last_progress = Block block; last_frame = x.blocks.last_frame; waiting_since = Never })
+        (record { last_progress = Some block; last_frame = x.blocks.last_frame; waiting_since = None })
 
     more : (k : ℕ) → has (bit_or o (bit_and (shown map) w)) k ≡ (has o k || (has (shown map) k && has w k))
     more k = has_or o (bit_and (shown map) w) k ∙ ap (λ (b : Bool). has o k || b) (has_and (shown map) w k)
@@ -287,8 +286,8 @@ sound_round v h = (h.echoes, h.next_echo)
 
 -- every step keeps it
 restart_round : (v : View) (x : Transfer) (o : Option ℕ) → Round v.echoes → Round (restart v x o).echoes
-restart_round v x none h = h
-restart_round v x (some echo) h = (length-set v.echoes.echo_until_ms echo (held_until v.limits x.parcel.deadline_ms) ∙ h.0, omega arith)
+restart_round v x None h = h
+restart_round v x (Some echo) h = (length-set v.echoes.echo_until_ms echo (held_until v.limits x.parcel.deadline_ms) ∙ h.0, omega arith)
 
 landed_round : (v : View) (x : Transfer) (f : Fate) → Round v.echoes → Round (landed v x f).echoes
 landed_round v x (Ends e) h = h
@@ -308,8 +307,8 @@ allocated-free v now deadline r usable fits =
 
 -- a restart that asks only whether an echo is free
 restarting-free : (v : View) (x : Transfer) (later : List Transfer) (o : Option ℕ) → restarting v x later (takes_literal v.echoes (held_until v.limits x.parcel.deadline_ms) o) ≡ says tt (restart v x o)
-restarting-free v x later none = refl
-restarting-free v x later (some echo) =
+restarting-free v x later None = refl
+restarting-free v x later (Some echo) =
     ap (λ (y : Transfer). says tt (kept (token_taken (with_echoes (clear_selected v x.generation) (hold v.echoes echo (held_until v.limits x.parcel.deadline_ms)))) y)) (starts_begun x.parcel echo v.next_token)
 
 -- a turn is a step
@@ -477,8 +476,8 @@ module _ (w : View) (m : Lent) (r : Request) (message : List ℕ) (h : Sound w) 
   pushes-accepts : (count : ℕ) → count_of (header_of r.channel 0 false) r.identity message ≡ gives count → (o : Option ℕ) → free_echo w.echoes w.clock.last_ms ≡ o
       → goes_on w m (takes_literal w.echoes (held_until w.limits r.deadline_ms) o) cuts_again ≡ goes_on w m (granted count o) (accepts w m r message)
   unfolding accepts
-  pushes-accepts count c none e = refl
-  pushes-accepts count c (some echo) e =
+  pushes-accepts count c None e = refl
+  pushes-accepts count c (Some echo) e =
       let u = with_echoes w (hold w.echoes echo (held_until w.limits r.deadline_ms)) in
       let v = replaced u r.identity in
       let n = lowest_n v.transfers in
@@ -550,9 +549,9 @@ unfolding choose
 choose-literal v octets h = go v.selected
   where
     go : (s : Option PreparedFrame) → choose_literal v octets s ≡ choose_from v octets s
-    go (some f) = refl
-    go none =
-        seek_passing is_ready v.transfers (says none v) (λ place x. front_literal v x octets (frames_of x.sets.queue)) (λ place x. selects v x (front_of x octets)) (λ i lt t.
+    go (Some f) = refl
+    go None =
+        seek_passing is_ready v.transfers (says None v) (λ place x. front_literal v x octets (frames_of x.sets.queue)) (λ place x. selects v x (front_of x octets)) (λ i lt t.
         let x = get_or v.transfers i blank_transfer in
         let live = all-at v.transfers i blank_transfer lt h.transfers in
         front-literal v x octets t live.sets (frames_live x live).1)
@@ -573,8 +572,8 @@ pushed_literal x t = go (idle x) refl
 
 -- the oldest is served
 served-literal : (v : View) (s : Option PreparedFrame) → served_literal v s ≡ oldest_first v s
-served-literal v none = fronted-literal v.clock.last_block v.transfers v refl
-served-literal v (some f) = refl
+served-literal v None = fronted-literal v.clock.last_block v.transfers v refl
+served-literal v (Some f) = refl
 
 -- `refresh_waiting`
 pub refresh-waiting-literal : (v : View) (m : Lent) (block now : ℕ) → Sound v → refresh_waiting_literal v m block now ≡ refresh_waiting_of v m block now
@@ -626,14 +625,14 @@ interrupt-literal v m echo block now h =
 pub prepare-prioritized-literal : (v : View) (m : Lent) (echo block now : ℕ) → Sound v → prepare_prioritized_literal v m echo block now ≡ prepare_prioritized_of v m echo block now
 unfolding prepare_prioritized_literal prepare_prioritized_of prioritize_at
 prepare-prioritized-literal v m echo block now h =
-    entering-same v m block now (λ w. seek (of_echo echo) w.transfers (says none w) (found w)) (λ w. seek (of_echo echo) w.transfers (says none w) (prioritized w m.octets echo)) h
-    (λ u e. let w = walked u in seek-same (of_echo echo) w.transfers (says none w) (found w) (prioritized w m.octets echo) (same u e))
+    entering-same v m block now (λ w. seek (of_echo echo) w.transfers (says None w) (found w)) (λ w. seek (of_echo echo) w.transfers (says None w) (prioritized w m.octets echo)) h
+    (λ u e. let w = walked u in seek-same (of_echo echo) w.transfers (says None w) (found w) (prioritized w m.octets echo) (same u e))
   where
     first : View → ℕ → Transfer → View
     first w place y = with_selected (with_transfers w (y ∷ remove_at place w.transfers)) (only_echo echo w.selected)
 
     goes : View → ℕ → Transfer → After (Option PreparedFrame) View
-    goes w place y = cond (is_ready y) (advancing (first w place y) block now (λ u. choose_literal u m.octets u.selected)) (says none (first w place y))
+    goes w place y = cond (is_ready y) (advancing (first w place y) block now (λ u. choose_literal u m.octets u.selected)) (says None (first w place y))
 
     found : View → ℕ → Transfer → After (Option PreparedFrame) View
     found w place x = goes w place (cond (idle x && is_set x.blocks.last_frame) (last_pushed x) x)
@@ -646,7 +645,7 @@ prepare-prioritized-literal v m echo block now h =
         let sound = prioritized-kept w i echo x lt refl (admitted-walked-kept v m block now e h) in
         let chooses : View → After (Option PreparedFrame) View = λ u. choose_literal u m.octets u.selected in
         ap (goes w i) (pushed_literal x (is_set x.blocks.last_frame))
-        ∙ cond_same (is_ready (repeated x)) (advancing z block now chooses) (choose z m.octets) (says none z) (λ o.
+        ∙ cond_same (is_ready (repeated x)) (advancing z block now chooses) (choose z m.octets) (says None z) (λ o.
         advancing_walks z block now chooses (walked_at v m block now e h) (sound_round z sound) (sound_proper z sound)
         ∙ (ap chooses (prioritized-walked u i (only_echo echo w.selected) (admitted-kept v m block now e h) lt) ∙ choose-literal z m.octets sound))
 
@@ -654,32 +653,32 @@ prepare-prioritized-literal v m echo block now h =
 pub submitted-message-literal : (v : View) (t : FrameToken) → Sound v → submitted_message_literal v t ≡ submitted_message_of v t
 unfolding submitted_message_literal submitted_message_of
 submitted-message-literal v t h =
-    seek-same (of_generation t.generation) v.transfers none (λ place x. answer x (each x.parcel.frames (λ k. has x.sets.transmitted k || has x.sets.in_flight k))) (λ place x. answer x (full x.parcel.frames (went_out x)))
+    seek-same (of_generation t.generation) v.transfers None (λ place x. answer x (each x.parcel.frames (λ k. has x.sets.transmitted k || has x.sets.in_flight k))) (λ place x. answer x (full x.parcel.frames (went_out x)))
     (λ i lt. let x = get_or v.transfers i blank_transfer in ap (answer x) (each_out x (all-at v.transfers i blank_transfer lt h.transfers).sets))
   where
     answer : Transfer → Bool → Option ℕ
-    answer x b = cond b (some x.parcel.completion) none
+    answer x b = cond b (Some x.parcel.completion) None
 
 -- `transmitted`: its `settle` changes nothing
 pub transmitted-literal : (v : View) (m : Lent) (t : FrameToken) (block now : ℕ) → Sound v → transmitted_literal v m t block now ≡ transmitted_of v m t block now
 unfolding transmitted_literal transmitted_of transmitted_at
 transmitted-literal v m t block now h =
-    onward-same v (admitted v m block now) _ _ (λ w e. seek-same (of_generation t.generation) w.transfers (says none w) (found w) (λ place x. cond (is_outstanding t m.words x) (confirms w t place x) (says none w)) (same w e))
+    onward-same v (admitted v m block now) _ _ (λ w e. seek-same (of_generation t.generation) w.transfers (says None w) (found w) (λ place x. cond (is_outstanding t m.words x) (confirms w t place x) (says None w)) (same w e))
   where
     found : View → ℕ → Transfer → After (Option Bool) View
     found w place x =
         let y = confirm_frame t.frame x in
-        cond (is_outstanding t m.words x) (advancing (put_at w place (settle_literal block y)) block now (says (some (each y.parcel.frames (has y.sets.transmitted))))) (says none w)
+        cond (is_outstanding t m.words x) (advancing (put_at w place (settle_literal block y)) block now (says (Some (each y.parcel.frames (has y.sets.transmitted))))) (says None w)
 
-    same : (w : View) → admitted v m block now ≡ gives w → (i : ℕ) → i < length w.transfers → let x = get_or w.transfers i blank_transfer in found w i x ≡ cond (is_outstanding t m.words x) (confirms w t i x) (says none w)
+    same : (w : View) → admitted v m block now ≡ gives w → (i : ℕ) → i < length w.transfers → let x = get_or w.transfers i blank_transfer in found w i x ≡ cond (is_outstanding t m.words x) (confirms w t i x) (says None w)
     same w e i lt =
         let x = get_or w.transfers i blank_transfer in
         let y = confirm_frame t.frame x in
         let sound = admitted-kept v m block now e h in
-        cond_same (is_outstanding t m.words x) (advancing (put_at w i (settle_literal block y)) block now (says (some (each y.parcel.frames (has y.sets.transmitted))))) (confirms w t i x) (says none w) (λ o.
+        cond_same (is_outstanding t m.words x) (advancing (put_at w i (settle_literal block y)) block now (says (Some (each y.parcel.frames (has y.sets.transmitted))))) (confirms w t i x) (says None w) (λ o.
         let k = confirmed_live x (all-at w.transfers i blank_transfer lt sound.transfers) t.frame (outstanding_frame t m.words x o) in
-        settled-advancing w i y block now (says (some (each y.parcel.frames (has y.sets.transmitted)))) (admitted_at v m block now e) lt k sound
-        ∙ ap (λ (b : Bool). says (some b) (walked (put_at w i y))) (each-full y.parcel.frames y.sets.transmitted k.sets.transmitted))
+        settled-advancing w i y block now (says (Some (each y.parcel.frames (has y.sets.transmitted)))) (admitted_at v m block now e) lt k sound
+        ∙ ap (λ (b : Bool). says (Some b) (walked (put_at w i y))) (each-full y.parcel.frames y.sets.transmitted k.sets.transmitted))
 
 -- a test the other way round
 neither_cond : {X : Type 0} (a b : Bool) (x y : X) → cond (not a && not b) y x ≡ cond (a || b) x y

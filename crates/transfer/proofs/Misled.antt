@@ -26,7 +26,7 @@ use Rattle.arq.specs.Decode.{decode_of}
 use Rattle.arq.specs.Cut.{cut_frame, count_of, frame_of}
 use Rattle.arq.specs.Round.{widened}
 use Rattle.receiver.specs.Receiver as receivers
-use Rattle.receiver.specs.Receiver.{Out, slot_at, put_slot, gathered, assembled, finish, push_continue, push_frame, push_of, status_answer}
+use Rattle.receiver.specs.Receiver.{Out, gathered, assembled, finish, push_frame, push_of, status_answer}
 use Rattle.receiver.specs.Demand3.{Push, heard, BeginFor, Such, Delivers, runs}
 use Rattle.receiver.proofs.Instance.{octets_in, small, small_octets}
 use Rattle.receiver.proofs.PushCases.{kinds_apart}
@@ -41,7 +41,7 @@ use Rattle.transfer.specs.Advance.{fate_of, step, walk, walked}
 use Rattle.transfer.specs.Enqueue.{grant_of, accepts, enqueue_of}
 use Rattle.transfer.specs.Prepare.{packed_of, choose, prepare_of}
 use Rattle.transfer.specs.Submitted.{submitted_at, submitted_of}
-use Rattle.transfer.specs.Invariant.{All, all_none, all_more, Some}
+use Rattle.transfer.specs.Invariant.{All, all_none, all_more, Any}
 use Rattle.transfer.specs.History.{Call, Enqueue, Prepare, Submitted, does, Told, after, Fresh, Each, Takes, Past, run_alone}
 use Rattle.transfer.specs.Gate.{Sent, times_of, InTime, Listens, GetsOwn, InOctets, told, StartsLate, SentByTwo, times_of_two}
 use Rattle.transfer.proofs.Listed.{all_head, all_tail, some_cons, some_all}
@@ -230,7 +230,7 @@ gets_own = gate sender lends calls mine (widened begin) (before ++ last ∷ []) 
 
 -- which is this
 delivered : Delivers order (replicate 255 0) (answer before last)
-unfolding before last push_of push_frame push_continue finish assembled gathered slot_at put_slot same ones ones_in decode_of header_a_at address_at bits_of bits value octets field up_to layout any_set encode_of begin_frame continue_frame packed encodable in_range
+unfolding before last push_of push_frame receivers.continued finish assembled gathered same ones ones_in decode_of header_a_at address_at bits_of bits value octets field up_to layout any_set encode_of begin_frame continue_frame packed encodable in_range
 delivered = record { answer = refl; buffer = refl }
 
 -- ---- the old start-up
@@ -289,7 +289,7 @@ stray_in_time = (lit≤ tt, lit≤ tt)
 
 -- and the gate, if its own Continue is lost, delivers the first half of its own order with the second half of the neighbour's
 misled : Delivers (1 ∷ 2 ∷ 3 ∷ 4 ∷ 5 ∷ 6 ∷ 7 ∷ 108 ∷ 109 ∷ 110 ∷ []) (replicate 255 0) (answer (push first_sent.frame ∷ []) (push second_sent.frame))
-unfolding first_sent second_sent push_of push_frame push_continue finish assembled gathered slot_at put_slot same ones ones_in decode_of header_a_at address_at bits_of bits value octets field up_to layout any_set encode_of begin_frame continue_frame packed encodable in_range
+unfolding first_sent second_sent push_of push_frame receivers.continued finish assembled gathered same ones ones_in decode_of header_a_at address_at bits_of bits value octets field up_to layout any_set encode_of begin_frame continue_frame packed encodable in_range
 misled = record { answer = refl; buffer = refl }
 
 -- of such a second sender `GateOfTwo` does not speak: it did not start late
@@ -318,7 +318,7 @@ patient : List Call
 patient = Enqueue (request 2 9000) others 21 200 ∷ Enqueue (request 2 9000) others 400 6000 ∷ Prepare 400 6000 ∷ []
 
 -- the one element of a list
-the_one : {P : Transfer → Type 0} (l : List Transfer) → length l ≡ 1 → Some P l → P (get_or l 0 blank_transfer)
+the_one : {P : Transfer → Type 0} (l : List Transfer) → length l ≡ 1 → Any P l → P (get_or l 0 blank_transfer)
 the_one [] e h = absurd (omega arith)
 the_one (x ∷ []) e h = ⊎_elim (λ p. p) (λ k. absurd (some_all {Q = λ y. ⊥} (λ y a b. b) k all_none)) (some_cons h)
 the_one (x ∷ y ∷ l) e h = absurd (omega arith)

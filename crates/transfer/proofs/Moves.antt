@@ -5,7 +5,7 @@ use mathlib.Core.Path.{◌≡◌, refl, sym, ap, subst, ◌∙◌}
 use mathlib.Core.Logic.{◌⊎◌, inl, inr, ⊎_elim}
 use mathlib.Core.Bool.{Bool, true, false, ◌&&◌}
 use mathlib.Core.List.{List, [], ◌∷◌, ◌++◌, map, foldl, append-nil, append_assoc}
-use mathlib.Core.Option.{Option, none, some, none-ne-some}
+use Rattle.std.specs.Prelude.{Option, None, Some}
 use Prim.Native.Nat.{ℕ, suc, ◌+◌, ◌≤◌, ◌<◌}
 use native.Mathlib.Omega.{arith}
 use lib.Dec.{eqb, leb, ltb}
@@ -43,7 +43,7 @@ use Rattle.transfer.specs.Cancel.{cancel_first, cancel_of, cancel_transaction_of
 use Rattle.transfer.specs.Refresh.{refreshed, queue_waiting, oldest, oldest_first, serve_oldest, refresh_waiting_of}
 use Rattle.transfer.specs.Queries.{pop_from, pop_event_of}
 use Rattle.transfer.specs.History.{Call, Enqueue, Advance, Prepare, Interrupt, PreparePrioritized, Submitted, Transmitted, Status, Cancel, CancelTransaction, CancelAll, RefreshWaiting, PopEvent, Acceptance, Done, moves, enqueues, writes, frame_in, prepares, pops, does}
-use Rattle.transfer.specs.Invariant.{All, all_none, all_more, Some, Chosen, Selected, Sound}
+use Rattle.transfer.specs.Invariant.{All, all_none, all_more, Any, Chosen, Selected, Sound}
 use Rattle.transfer.proofs.Listed.{all_map, all_head, all_tail, all_one, all_rest, all_in, all-at, all_removed, all_back, some_one}
 use Rattle.transfer.proofs.Alive.{settled_parcel}
 use Rattle.transfer.proofs.Invariant.{Keeps, keeps_among, self_keeps, settled_keeps, repeated_keeps, refreshed_keeps, confirmed_keeps, observed_keeps, in_flight_keeps, clock_kept, selected_kept, ended-kept, placed_kept, token_kept, events_kept, Welcomes, welcomes, welcomes_instead, welcomed_kept, cond_cases, seek_cases, prioritize_cases, submit_cases, confirm_cases, status_cases, neither, ticked_gives, admitted_gives, admitted-kept, admitted_tokens, Passes, grant_passes}
@@ -55,13 +55,13 @@ use Rattle.transfer.proofs.AdvanceTwice.{Rests, rests_stays, walked_rests}
 -- one move of a sender, whose lent octets are these, in a call at whose start the next token was `first`
 pub data Move (octets : List ℕ) (first : ℕ) (v : View) : View → Type 0 where
   -- no frame is selected any more, or the same one is
-  drops : (s : Option PreparedFrame) → (s ≡ none) ⊎ (s ≡ v.selected) → Move octets first v (with_selected v s)
+  drops : (s : Option PreparedFrame) → (s ≡ None) ⊎ (s ≡ v.selected) → Move octets first v (with_selected v s)
   -- the front of a transfer's queue is selected, under the next token
-  picks : (a b : List Transfer) (x : Transfer) (p : PackedFrame) → v.transfers ≡ a ++ x ∷ b → is_ready x ≡ true → v.next_token < stop → front_of x octets ≡ gives p → Move octets first v (with_selected (token_taken v) (some (prepared_of x p v.next_token)))
+  picks : (a b : List Transfer) (x : Transfer) (p : PackedFrame) → v.transfers ≡ a ++ x ∷ b → is_ready x ≡ true → v.next_token < stop → front_of x octets ≡ gives p → Move octets first v (with_selected (token_taken v) (Some (prepared_of x p v.next_token)))
   -- another stands for a transfer, at the same place or another
   shifts : (a b c d : List Transfer) (x y : Transfer) → v.transfers ≡ a ++ x ∷ b → c ++ d ≡ a ++ b → Keeps v y x → Move octets first v (with_transfers v (c ++ y ∷ d))
   -- a transfer that is not overdue restarts, under a free echo and the next token; what began in the call does not
-  restarts : (a b : List Transfer) (x : Transfer) (echo : ℕ) → v.transfers ≡ a ++ x ∷ b → x.generation.0 < first → overdue v.clock x ≡ false → v.next_token < stop → free_echo v.echoes v.clock.last_ms ≡ some echo
+  restarts : (a b : List Transfer) (x : Transfer) (echo : ℕ) → v.transfers ≡ a ++ x ∷ b → x.generation.0 < first → overdue v.clock x ≡ false → v.next_token < stop → free_echo v.echoes v.clock.last_ms ≡ Some echo
       → Move octets first v (with_transfers (token_taken (with_echoes (clear_selected v x.generation) (hold v.echoes echo (held_until v.limits x.parcel.deadline_ms)))) (a ++ begun x.parcel echo v.next_token ∷ b))
   -- a transfer ends, and its event waits; what began in the call does not
   ends : (a b : List Transfer) (x : Transfer) (how : How) → v.transfers ≡ a ++ x ∷ b → x.generation.0 < first → Move octets first v (with_transfers (ended v x (event_of x how)) (a ++ b))
@@ -79,18 +79,18 @@ Prompt v = All (λ x. overdue v.clock x ≡ false) v.transfers
 -- request, or it takes an event
 pub data Last (octets : List ℕ) (v : View) (c : Call) : Done → Type 0 where
   silent : {words : List ℕ} → Last octets v c (moves (record { octets = octets; words = words }) v)
-  tells_one : {words : List ℕ} (f : PreparedFrame) → v.selected ≡ some f → Prompt v
-      → Last octets v c (record { sender = v; lent = record { octets = octets; words = words }; frame = some f; accepted = none; popped = none })
+  tells_one : {words : List ℕ} (f : PreparedFrame) → v.selected ≡ Some f → Prompt v
+      → Last octets v c (record { sender = v; lent = record { octets = octets; words = words }; frame = Some f; accepted = None; popped = None })
   accepts_one : {words : List ℕ} {block now : ℕ} (r : Request) (message : List ℕ) (g : Grant) → c ≡ Enqueue r message block now → 32640 ≤ length octets → Welcomes v r message g
       → Last octets v c (record {
         sender = kept (token_taken (with_echoes v (hold v.echoes g.echo (held_until v.limits r.deadline_ms)))) (begun (parcel_of r message g.frames (lowest_n v.transfers) v.next_token) g.echo v.next_token);
         lent = record { octets = stored octets (lowest_n v.transfers) message; words = words };
-        frame = none;
-        accepted = some (record { token = record { 0 = v.next_token }; request = r; message = message });
-        popped = none;
+        frame = None;
+        accepted = Some (record { token = record { 0 = v.next_token }; request = r; message = message });
+        popped = None;
       })
   takes_one : {words : List ℕ} (e : Event) (l : List Event) → v.events ≡ e ∷ l
-      → Last octets v c (record { sender = with_events v l; lent = record { octets = octets; words = words }; frame = none; accepted = none; popped = some (ending_of e) })
+      → Last octets v c (record { sender = with_events v l; lent = record { octets = octets; words = words }; frame = None; accepted = None; popped = Some (ending_of e) })
 
 -- a sender that the clock and moves make of another
 pub record Quietly (octets : List ℕ) (v w : View) : Type 0 where
@@ -115,7 +115,7 @@ move_kept {v = v} (drops s e) h =
 move_kept {v = v} (picks a b x p e r room q) h =
     let f = prepared_of x p v.next_token in
     let c : Chosen f x = record { generation = refl; ready = r; frame = refl; echo = refl; identity = refl } in
-    selected_kept (token_taken v) (some f) (subst (Some (Chosen f)) (sym e) (some_one a x b c), omega arith) (token_kept v h)
+    selected_kept (token_taken v) (Some f) (subst (Any (Chosen f)) (sym e) (some_one a x b c), omega arith) (token_kept v h)
 move_kept {v = v} (shifts a b c d x y e q k) h = placed_kept v a b c d x y q k (subst (λ l. Sound (with_transfers v l)) e h)
 move_kept {v = v} (restarts a b x echo e old due room q) h = begun_kept v a x b (subst (λ l. Sound (with_transfers v l)) e h) q room
 move_kept {v = v} (ends a b x how e old) h = ended-kept v a x b (event_of x how) (subst (λ l. Sound (with_transfers v l)) e h)
@@ -186,9 +186,9 @@ module _ {octets : List ℕ} {first : ℕ} (v : View) (x : Transfer) (rest : Lis
 
     -- it restarts, if an echo is free
     restart_move : overdue v.clock x ≡ false → v.next_token < stop → (o : Option ℕ) → free_echo v.echoes v.clock.last_ms ≡ o → Move octets first (behind v (x ∷ rest)) (behind (restart v x o) rest)
-    restart_move due room none q = ends_move (fails EchoExhausted)
-    restart_move due room (some echo) q =
-        subst (λ l. Move octets first (behind v (x ∷ rest)) (with_transfers (restart v x (some echo)) l)) (sym (append_assoc v.transfers (begun x.parcel echo v.next_token ∷ []) rest))
+    restart_move due room None q = ends_move (fails EchoExhausted)
+    restart_move due room (Some echo) q =
+        subst (λ l. Move octets first (behind v (x ∷ rest)) (with_transfers (restart v x (Some echo)) l)) (sym (append_assoc v.transfers (begun x.parcel echo v.next_token ∷ []) rest))
         (restarts v.transfers rest x echo refl old due room q)
 
     -- whatever becomes of it
@@ -206,7 +206,7 @@ module _ {octets : List ℕ} {first : ℕ} (v : View) (x : Transfer) (rest : Lis
       (λ q. subst (λ f. Move octets first (behind v (x ∷ rest)) (behind (landed v x f) rest)) (sym q) (kept_move x (self_keeps v x))) g
 
 -- each transfer of a list, whichever restarts are asked for
-each_of : {P : Transfer → Type 0} (l : List (Bool × Transfer)) → All P (transfers_of l) → All (λ p. P p.1) l
+pub each_of : {P : Transfer → Type 0} (l : List (Bool × Transfer)) → All P (transfers_of l) → All (λ p. P p.1) l
 each_of [] h = all_none
 each_of (p ∷ l) h = all_more (all_head h) (each_of l (all_tail h))
 
@@ -230,8 +230,8 @@ step_late first v asked x old h =
     (λ o d r. all_back v.transfers (settle_of b x) (inl (subst (λ (g : Generation). g.0 < first) (sym (settled_parcel b x).1) old)) h)
   where
     again : (o : Option ℕ) → All (Late first) (restart v x o).transfers
-    again none = h
-    again (some echo) = all_back v.transfers (begun x.parcel echo v.next_token) (inr refl) h
+    again None = h
+    again (Some echo) = all_back v.transfers (begun x.parcel echo v.next_token) (inr refl) h
 
 -- all of them
 steps_late : (first : ℕ) (l : List (Bool × Transfer)) (v : View) → All (λ p. p.1.generation.0 < first) l → All (Late first) v.transfers → All (Late first) (foldl step v l).transfers
@@ -239,7 +239,7 @@ steps_late first [] v a h = h
 steps_late first (p ∷ l) v a h = steps_late first l (step v p) (all_tail a) (step_late first v p.0 p.1 (all_head a) h)
 
 -- the live transfers of a Sound sender were there
-old : (v : View) → Sound v → All (λ x. x.generation.0 < v.next_token) v.transfers
+pub old : (v : View) → Sound v → All (λ x. x.generation.0 < v.next_token) v.transfers
 old v h = all_map (λ x k. k.generation) h.transfers
 
 -- `advance`
@@ -252,9 +252,9 @@ walked_rest : (v : View) → Sound v → All (Rests (walked v).clock) (walked v)
 walked_rest v h = subst (λ c. All (Rests c) (walked v).transfers) (sym (walked_near v h).clock) (walked_rests v h)
 
 -- a selected frame of another echo is dropped
-pub only-echo : (echo : ℕ) (s : Option PreparedFrame) → (only_echo echo s ≡ none) ⊎ (only_echo echo s ≡ s)
-only-echo echo none = inl refl
-only-echo echo (some f) = cond_cases {X = Option PreparedFrame} (λ t. (t ≡ none) ⊎ (t ≡ some f)) (eqb f.partial_echo echo) (some f) none (λ e. inr refl) (λ e. inl refl)
+pub only-echo : (echo : ℕ) (s : Option PreparedFrame) → (only_echo echo s ≡ None) ⊎ (only_echo echo s ≡ s)
+only-echo echo None = inl refl
+only-echo echo (Some f) = cond_cases {X = Option PreparedFrame} (λ t. (t ≡ None) ⊎ (t ≡ Some f)) (eqb f.partial_echo echo) (Some f) None (λ e. inr refl) (λ e. inl refl)
 
 -- another stands at a place, and each of the others as it stood
 all_put : {P : Transfer → Type 0} (v : View) (place : ℕ) (y : Transfer) → place < length v.transfers → P y → All P v.transfers → All P (put_at v place y).transfers
@@ -274,7 +274,7 @@ module _ {octets : List ℕ} {first : ℕ} where
       goes (step_move v p.1 (transfers_of l) p.0 (omega arith) (all_head a)) (steps_moves l (step v p) (omega arith) (subst (λ c. All (Goes first c) l) (sym (step_near v p).clock) (all_tail a)))
 
   -- whichever restarts are asked for, while a token is left for each transfer
-  walk-moves : (v : View) (l : List (Bool × Transfer)) → transfers_of l ≡ v.transfers → v.next_token + length v.transfers ≤ stop → All (Goes first v.clock) l → Moves octets first v (walk v l)
+  pub walk-moves : (v : View) (l : List (Bool × Transfer)) → transfers_of l ≡ v.transfers → v.next_token + length v.transfers ≤ stop → All (Goes first v.clock) l → Moves octets first v (walk v l)
   unfolding walk
   walk-moves v l e room a =
       let n : length l ≡ length v.transfers = sym (long l) ∙ ap length e in
@@ -298,11 +298,11 @@ module _ {octets : List ℕ} {first : ℕ} where
     pub front_move : Move octets first v (with_transfers v (y ∷ remove_at place v.transfers))
     front_move = shift [] (remove_at place v.transfers) refl
 
-    back_move : Move octets first v (with_transfers v (push_back (remove_at place v.transfers) y))
+    pub back_move : Move octets first v (with_transfers v (push_back (remove_at place v.transfers) y))
     back_move = shift (remove_at place v.transfers) [] (append-nil (remove_at place v.transfers))
 
   -- each is changed so, behind those that are done
-  map-moves : (f : Transfer → Transfer) (v : View) → ((x : Transfer) → Keeps v (f x) x) → (done l : List Transfer) → Moves octets first (with_transfers v (done ++ l)) (with_transfers v (done ++ map f l))
+  pub map-moves : (f : Transfer → Transfer) (v : View) → ((x : Transfer) → Keeps v (f x) x) → (done l : List Transfer) → Moves octets first (with_transfers v (done ++ l)) (with_transfers v (done ++ map f l))
   map-moves f v s done [] = stays
   map-moves f v s done (x ∷ l) =
       goes (shifts done l done l x (f x) refl refl (keeps_among (done ++ x ∷ l) (s x)))
@@ -316,12 +316,12 @@ module _ {octets : List ℕ} {first : ℕ} where
       ends (take place v.transfers) (drop (suc place) v.transfers) x cancels (split_at v.transfers place blank_transfer lt) (all-at v.transfers place blank_transfer lt a)
 
   -- all are, and nothing is selected any more
-  all_moves : (l : List Transfer) (v : View) → All (λ x. x.generation.0 < first) l → Moves octets first (with_transfers v l) (with_selected (with_transfers (with_events v (v.events ++ map (λ x. event_of x cancels) l)) []) none)
-  all_moves [] v a = subst (λ e. Moves octets first (with_transfers v []) (with_selected (with_transfers (with_events v e) []) none)) (sym (append-nil v.events)) (one (drops none (inl refl)))
+  pub all_moves : (l : List Transfer) (v : View) → All (λ x. x.generation.0 < first) l → Moves octets first (with_transfers v l) (with_selected (with_transfers (with_events v (v.events ++ map (λ x. event_of x cancels) l)) []) None)
+  all_moves [] v a = subst (λ e. Moves octets first (with_transfers v []) (with_selected (with_transfers (with_events v e) []) None)) (sym (append-nil v.events)) (one (drops None (inl refl)))
   all_moves (x ∷ l) v a =
       let e = event_of x cancels in
       goes (ends [] l x cancels refl (all_head a))
-      (subst (λ t. Moves octets first (with_transfers (ended v x e) l) (with_selected (with_transfers (with_events v t) []) none)) (append_assoc v.events (e ∷ []) (map (λ x. event_of x cancels) l))
+      (subst (λ t. Moves octets first (with_transfers (ended v x e) l) (with_selected (with_transfers (with_events v t) []) None)) (append_assoc v.events (e ∷ []) (map (λ x. event_of x cancels) l))
       (all_moves l (ended v x e) (all_tail a)))
 
   -- a frame is selected, or refused
@@ -331,13 +331,13 @@ module _ {octets : List ℕ} {first : ℕ} where
 
   -- the selected frame, or the front of the first transfer that has one queued
   choose_from_moves : (v : View) (s : Option PreparedFrame) → v.next_token < stop → Moves octets first v (choose_from v octets s).state
-  choose_from_moves v (some f) room = stays
-  choose_from_moves v none room =
-      seek_cases {X = After (Option PreparedFrame) View} (λ a. Moves octets first v a.state) is_ready v.transfers (says none v) (λ place x. selects v x (front_of x octets)) (λ n. stays)
+  choose_from_moves v (Some f) room = stays
+  choose_from_moves v None room =
+      seek_cases {X = After (Option PreparedFrame) View} (λ a. Moves octets first v a.state) is_ready v.transfers (says None v) (λ place x. selects v x (front_of x octets)) (λ n. stays)
       (λ i lt t. let x = get_or v.transfers i blank_transfer in selects-moves v (take i v.transfers) (drop (suc i) v.transfers) x (split_at v.transfers i blank_transfer lt) t room (front_of x octets) refl)
 
   -- what `prepare` does after its `advance`
-  choose-moves : (v : View) → v.next_token < stop → Moves octets first v (choose v octets).state
+  pub choose-moves : (v : View) → v.next_token < stop → Moves octets first v (choose v octets).state
   unfolding choose
   choose-moves v room = choose_from_moves v v.selected room
 
@@ -377,13 +377,13 @@ module _ {octets : List ℕ} {first : ℕ} where
       seek_cases {X = After Bool View} (λ z. Moves octets first v z.state) p v.transfers (says false v) (λ place x. says true (cancel_at v place x)) (λ n. stays) (λ i lt t. one (cancel_move v i lt a))
 
   -- whether a frame is selected or not
-  oldest_first_moves : (v : View) (s : Option PreparedFrame) → Moves octets first v (oldest_first v s)
-  oldest_first_moves v none =
+  pub oldest_first_moves : (v : View) (s : Option PreparedFrame) → Moves octets first v (oldest_first v s)
+  oldest_first_moves v None =
       let place = oldest v.clock.last_block v.transfers in
       let l = v.transfers in
       cond_cases {X = List Transfer} (λ t. Moves octets first v (with_transfers v t)) (ltb place (length l)) (get_or l place blank_transfer ∷ remove_at place l) l
       (λ e. one (front_move v place (get_or l place blank_transfer) (ltb-true place (length l) e) (self_keeps v (get_or l place blank_transfer)))) (λ e. stays)
-  oldest_first_moves v (some f) = stays
+  oldest_first_moves v (Some f) = stays
 
   -- both halves of `refresh_waiting`
   refresh_moves : (v : View) → Moves octets first v (serve_oldest (queue_waiting v))
@@ -407,7 +407,7 @@ admitted_quietly {octets} v m block now f s k =
     (λ w e. ticked_quietly v block now (admitted_gives v m block now e).1 (k w (admitted-kept v m block now e s) (admitted_tokens v m block now e)))
 
 -- a token is left for each transfer
-room-each : (w : View) → Sound w → 128 + w.next_token ≤ stop → w.next_token + length w.transfers ≤ stop
+pub room-each : (w : View) → Sound w → 128 + w.next_token ≤ stop → w.next_token + length w.transfers ≤ stop
 room-each w s room = let a = s.live in let b = s.most_capacity in omega arith
 
 -- `advance` at the moved clock
@@ -439,9 +439,9 @@ accepts_leaves v m r message g block now {w} e p s =
     (λ x. Leaves m.octets v (Enqueue r message block now) (record {
       sender = kept (token_taken x) (begun (parcel_of r message g.frames (lowest_n x.transfers) t) g.echo t);
       lent = record { octets = stored m.octets (lowest_n x.transfers) message; words = m.words };
-      frame = none;
-      accepted = some (record { token = record { 0 = t }; request = r; message = message });
-      popped = none;
+      frame = None;
+      accepted = Some (record { token = record { 0 = t }; request = r; message = message });
+      popped = None;
     }))
     (addressed r.identity) w.transfers u (cancel_at u)
     (λ n. record { middle = w; quietly = ticked_quietly v block now k stays; last = accepts_one r message g refl long (welcomes w r message g p low s n) })
@@ -464,7 +464,7 @@ submitted_leaves v m t block now =
     out_cases P v m (refuse (short m) 16 (ticked v block now)) (λ w. submitted_at w m t) (λ k. quiet (at_once stays))
     (λ w e. let k = (passed (short m) 16 (ticked v block now) e).1 in
     submit_cases P w m t (quiet (ticked_quietly v block now k stays))
-    (λ i lt q. quiet (ticked_quietly v block now k (goes (drops none (inl refl)) (let u = with_selected w none in let x = get_or w.transfers i blank_transfer in one (back_move u i (in_flight_lem t.frame w.clock.last_block x) lt (in_flight_keeps u x t.frame refl q)))))))
+    (λ i lt q. quiet (ticked_quietly v block now k (goes (drops None (inl refl)) (let u = with_selected w None in let x = get_or w.transfers i blank_transfer in one (back_move u i (in_flight_lem t.frame w.clock.last_block x) lt (in_flight_keeps u x t.frame refl q)))))))
   where
     P : Out Unit → Type 0
     P o = Leaves m.octets v (Submitted t block now) (writes o)
@@ -501,22 +501,22 @@ walked_prompt v h = all_map (λ x r. r.in_time) (walked_rest v h)
 
 -- the frame of an answer is selected
 abbrev Shown : After (Option PreparedFrame) View → Type 0
-Shown a = (f : PreparedFrame) → frame_in a.outcome ≡ some f → a.state.selected ≡ some f
+Shown a = (f : PreparedFrame) → frame_in a.outcome ≡ Some f → a.state.selected ≡ Some f
 
 -- none is told
-unsaid : (v : View) → Shown (says none v)
-unsaid v f e = absurd (none-ne-some f e)
+unsaid : (v : View) → Shown (says None v)
+unsaid v f e = cc
 
 -- a frame is selected, or refused
 selects-shown : (v : View) (x : Transfer) (o : Outcome PackedFrame) → Shown (selects v x o)
 selects-shown v x (gives p) f r = r
-selects-shown v x (refuses n) f r = absurd (none-ne-some f r)
+selects-shown v x (refuses n) f r = cc
 
 -- the selected frame, or the front of the first transfer that has one queued
 choose_from_shown : (v : View) (octets : List ℕ) (s : Option PreparedFrame) → v.selected ≡ s → Shown (choose_from v octets s)
-choose_from_shown v octets (some f) e = λ g r. e ∙ r
-choose_from_shown v octets none e =
-    seek_cases {X = After (Option PreparedFrame) View} Shown is_ready v.transfers (says none v) (λ place x. selects v x (front_of x octets)) (λ n. unsaid v)
+choose_from_shown v octets (Some f) e = λ g r. e ∙ r
+choose_from_shown v octets None e =
+    seek_cases {X = After (Option PreparedFrame) View} Shown is_ready v.transfers (says None v) (λ place x. selects v x (front_of x octets)) (λ n. unsaid v)
     (λ i lt t. let x = get_or v.transfers i blank_transfer in selects-shown v x (front_of x octets))
 
 -- what `prepare` does after its `advance`
@@ -536,10 +536,10 @@ told_leaves : (v : View) (m : Lent) (c : Call) (block now : ℕ) (f : View → A
     → Leaves m.octets v c (prepares m (onward v (admitted v m block now) (λ w. f (walked w))))
 told_leaves v m c block now f s k shown = go (admitted v m block now) refl
   where
-    last : (w : View) → Sound w → (walked w).next_token < stop → (o : Option PreparedFrame) → ((g : PreparedFrame) → o ≡ some g → (f (walked w)).state.selected ≡ some g)
-        → Last m.octets (f (walked w)).state c (record { sender = (f (walked w)).state; lent = m; frame = o; accepted = none; popped = none })
-    last w h room none q = silent
-    last w h room (some g) q = tells_one g (q g refl) (moves_prompt (k 0 (walked w) room) (walked_prompt w h))
+    last : (w : View) → Sound w → (walked w).next_token < stop → (o : Option PreparedFrame) → ((g : PreparedFrame) → o ≡ Some g → (f (walked w)).state.selected ≡ Some g)
+        → Last m.octets (f (walked w)).state c (record { sender = (f (walked w)).state; lent = m; frame = o; accepted = None; popped = None })
+    last w h room None q = silent
+    last w h room (Some g) q = tells_one g (q g refl) (moves_prompt (k 0 (walked w) room) (walked_prompt w h))
 
     go : (o : Outcome View) → admitted v m block now ≡ o → Leaves m.octets v c (prepares m (onward v o (λ w. f (walked w))))
     go (gives w) e =
@@ -581,22 +581,22 @@ does_leaves v m PopEvent s = pop_from_leaves v m v.events refl
 -- ---- what is done last
 
 -- a frame that a call tells is the selected one, no transfer is overdue then, and nothing else is done last
-pub last-told : {octets : List ℕ} {v : View} {c : Call} {d : Done} (f : PreparedFrame) → Last octets v c d → d.frame ≡ some f → (v ≡ d.sender) × (d.sender.selected ≡ some f) × Prompt d.sender
-last-told f silent q = absurd (none-ne-some f q)
+pub last-told : {octets : List ℕ} {v : View} {c : Call} {d : Done} (f : PreparedFrame) → Last octets v c d → d.frame ≡ Some f → (v ≡ d.sender) × (d.sender.selected ≡ Some f) × Prompt d.sender
+last-told f silent q = cc
 last-told f (tells_one g e p) q = (refl, e ∙ q, p)
-last-told f (accepts_one r message g k long w) q = absurd (none-ne-some f q)
-last-told f (takes_one e l p) q = absurd (none-ne-some f q)
+last-told f (accepts_one r message g k long w) q = cc
+last-told f (takes_one e l p) q = cc
 
 -- a part of an acceptance, or another where there is none
 abbrev pub within : {A : Type 0} → (Acceptance → A) → A → Option Acceptance → A
-within f d none = d
-within f d (some o) = f o
+within f d None = d
+within f d (Some o) = f o
 
 -- what a call accepts is what `enqueue` was given, under the next token
-pub last_accepted : {octets : List ℕ} {v : View} {c : Call} {d : Done} (o : Acceptance) → Last octets v c d → d.accepted ≡ some o
+pub last_accepted : {octets : List ℕ} {v : View} {c : Call} {d : Done} (o : Acceptance) → Last octets v c d → d.accepted ≡ Some o
     → (block : ℕ) × (now : ℕ) × (c ≡ Enqueue o.request o.message block now) × (v.next_token ≡ o.token.0) × (d.sender.next_token ≡ number_after v.next_token) × (v.next_token < stop)
-last_accepted o silent q = absurd (none-ne-some o q)
-last_accepted o (tells_one f e p) q = absurd (none-ne-some o q)
+last_accepted o silent q = cc
+last_accepted o (tells_one f e p) q = cc
 last_accepted o (accepts_one {block = block} {now = now} r message g k long w) q =
     (block, now, rw (← ap (within (λ o. o.request) r) q, ← ap (within (λ o. o.message) message) q) k, ap (within (λ o. o.token.0) 0) q, refl, w.counter)
-last_accepted o (takes_one e l f) q = absurd (none-ne-some o q)
+last_accepted o (takes_one e l f) q = cc

@@ -1,7 +1,7 @@
 -- Under one token one message is accepted, over any list of calls: the message that `Faithful` speaks of is the only one. Assumes nothing.
 use mathlib.Core.Path.{◌≡◌, refl, sym, ap, subst, ◌∙◌}
 use mathlib.Core.List.{List, [], ◌∷◌, ◌++◌}
-use mathlib.Core.Option.{some}
+use Rattle.std.specs.Prelude.{Some}
 use Prim.Native.Nat.{ℕ, suc, ◌≤◌}
 use native.Mathlib.Omega.{arith}
 use Rattle.token.specs.Token.{stop}
@@ -55,7 +55,7 @@ module _ (n : ℕ) where
 -- ---- an acceptance
 
 -- its token is not below what was next, and what comes next is above it
-call_token : (v : View) (m : Lent) (c : Call) (o : Acceptance) → Sound v → (does v m c).accepted ≡ some o → (v.next_token ≤ o.token.0) × Past (suc o.token.0) (does v m c).sender
+call_token : (v : View) (m : Lent) (c : Call) (o : Acceptance) → Sound v → (does v m c).accepted ≡ Some o → (v.next_token ≤ o.token.0) × Past (suc o.token.0) (does v m c).sender
 call_token v m c o s q =
     let l = does_leaves v m c s in
     let t = last_accepted o l.last q in
@@ -69,10 +69,10 @@ call_token v m c o s q =
 
 -- after these calls this one accepts so
 abbrev At : View → Lent → List Call → Call → Acceptance → Type 0
-At v m calls c o = let at = run_alone v m calls in (does at.0 at.1 c).accepted ≡ some o
+At v m calls c o = let at = run_alone v m calls in (does at.0 at.1 c).accepted ≡ Some o
 
 -- what is accepted later is under another token
-later_token : (o p : Acceptance) → o.token.0 ≡ p.token.0 → (v : View) (m : Lent) (c d : Call) (calls : List Call) → Sound v → (does v m c).accepted ≡ some o → At (does v m c).sender (does v m c).lent calls d p → ⊥
+later_token : (o p : Acceptance) → o.token.0 ≡ p.token.0 → (v : View) (m : Lent) (c d : Call) (calls : List Call) → Sound v → (does v m c).accepted ≡ Some o → At (does v m c).sender (does v m c).lent calls d p → ⊥
 later_token o p same v m c d calls s a b =
     let n = does v m c in
     let at = run_alone n.sender n.lent calls in
@@ -86,8 +86,8 @@ module _ (o p : Acceptance) (same : o.token.0 ≡ p.token.0) where
   one_place : (v : View) (m : Lent) (c d : Call) (e f g h : List Call) → e ++ c ∷ g ≡ f ++ d ∷ h → Sound v → At v m e c o → At v m f d p → (e ≡ f) × (c ≡ d)
   unfolding run_alone
   one_place v m c d [] [] g h q s a b = (refl, cc)
-  one_place v m c d [] (k ∷ f) g h q s a b = let x : c ≡ k = cc in absurd (later_token o p same v m k d f s (subst (λ c. (does v m c).accepted ≡ some o) x a) b)
-  one_place v m c d (k ∷ e) [] g h q s a b = let x : d ≡ k = cc in absurd (later_token p o (sym same) v m k c e s (subst (λ d. (does v m d).accepted ≡ some p) x b) a)
+  one_place v m c d [] (k ∷ f) g h q s a b = let x : c ≡ k = cc in absurd (later_token o p same v m k d f s (subst (λ c. (does v m c).accepted ≡ Some o) x a) b)
+  one_place v m c d (k ∷ e) [] g h q s a b = let x : d ≡ k = cc in absurd (later_token p o (sym same) v m k c e s (subst (λ d. (does v m d).accepted ≡ Some p) x b) a)
   one_place v m c d (k ∷ e) (l ∷ f) g h q s a b =
       let x : k ≡ l = cc in
       let y : e ++ c ∷ g ≡ f ++ d ∷ h = cc in

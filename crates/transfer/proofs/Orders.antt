@@ -3,7 +3,7 @@ use mathlib.Core.Path.{◌≡◌, refl, sym, ap, subst, ◌∙◌}
 use mathlib.Core.Logic.{◌⊎◌, inl, inr, ⊎_elim}
 use mathlib.Core.Bool.{false}
 use mathlib.Core.List.{List, [], ◌∷◌, ◌++◌}
-use mathlib.Core.Option.{some}
+use Rattle.std.specs.Prelude.{Some}
 use Prim.Native.Nat.{ℕ, ◌+◌, ◌≤◌, ◌<◌}
 use native.Mathlib.Omega.{arith}
 use borrow.Author.Tests.{leb-false}
@@ -18,7 +18,7 @@ use Rattle.transfer.specs.State.{Limits, View, Lent}
 use Rattle.transfer.specs.Echo.{held_until}
 use Rattle.transfer.specs.Transfer.{header_of}
 use Rattle.transfer.specs.Advance.{overdue}
-use Rattle.transfer.specs.Invariant.{All, Some, Pairs, Different, Sound}
+use Rattle.transfer.specs.Invariant.{All, Any, Pairs, Different, Sound}
 use Rattle.transfer.specs.History.{Call, Done, does, Fresh, hold_of, run_alone, Accepts, IsFrameOf, Traced}
 use Rattle.transfer.specs.Gate.{doing, HeldFor, OneOrder}
 use Rattle.transfer.proofs.Listed.{all_both, all_one, all_rest, some-map, some_all, some_out, some_split, pairs_one}
@@ -37,7 +37,7 @@ pub record Later (v w : View) : Type 0 where
   pub limits : w.limits ≡ v.limits
   pub since : v.clock.last_ms ≤ w.clock.last_ms
   pub holds : (echo : ℕ) → hold_of v echo ≤ hold_of w echo
-  pub back : (y : Transfer) → w.clock.last_ms < hold_of v y.echo → Some (SameParcel y) w.transfers → Some (SameParcel y) v.transfers
+  pub back : (y : Transfer) → w.clock.last_ms < hold_of v y.echo → Any (SameParcel y) w.transfers → Any (SameParcel y) v.transfers
 
 -- as it was
 self : (v : View) → Later v v
@@ -65,7 +65,7 @@ does_later v m c h = record { limits = k.limits; since = k.since; holds = k.hold
     k : Careful v w
     k = does_careful v m c h
 
-    go : (y : Transfer) → w.clock.last_ms < hold_of v y.echo → (z : Transfer) → SameParcel y z → Some (SameParcel z) v.transfers ⊎ ((hold_of v z.echo ≤ w.clock.last_ms) × (w.clock.last_ms < z.parcel.deadline_ms)) → Some (SameParcel y) v.transfers
+    go : (y : Transfer) → w.clock.last_ms < hold_of v y.echo → (z : Transfer) → SameParcel y z → Any (SameParcel z) v.transfers ⊎ ((hold_of v z.echo ≤ w.clock.last_ms) × (w.clock.last_ms < z.parcel.deadline_ms)) → Any (SameParcel y) v.transfers
     go y t z s (inl o) = some-map (λ u p. (s.0 ∙ p.0, s.1 ∙ p.1, s.2 ∙ p.2)) o
     go y t z s (inr n) = let a = subst (λ e. hold_of v e ≤ w.clock.last_ms) (sym s.2) n.0 in absurd (omega arith)
 
@@ -99,7 +99,7 @@ run_behind v m a c b = run-append v m a (c ∷ b)
 -- ---- one echo, one order
 
 -- of two transfers that are not overdue and have one echo, both are one
-one_live : (w : View) (x y : Transfer) → Sound w → Prompt w → Some (λ z. z ≡ x) w.transfers → Some (SameParcel y) w.transfers → y.echo ≡ x.echo → SameParcel y x
+one_live : (w : View) (x y : Transfer) → Sound w → Prompt w → Any (λ z. z ≡ x) w.transfers → Any (SameParcel y) w.transfers → y.echo ≡ x.echo → SameParcel y x
 one_live w x y h p i j e =
     let s = some_split i in
     let a = s.0 in
@@ -109,7 +109,7 @@ one_live w x y h p i j e =
     let d = pairs_one (different_sym w.clock) a z b (subst (Pairs (Different w.clock)) s.3 h.different) in
     ⊎_elim (λ (k : SameParcel y z). subst (SameParcel y) s.4 k)
     (λ k. absurd (some_all (λ u t r. r.0.echo (all_one a z b q) r.1 (ap (λ (t : Transfer). t.echo) s.4 ∙ (sym e ∙ t.2))) k (all_both d (all_rest a z b q))))
-    (some_out a z b (subst (Some (SameParcel y)) s.3 j))
+    (some_out a z b (subst (Any (SameParcel y)) s.3 j))
 
 -- a frame of one transfer is a frame of another of the same parcel, generation and echo
 frame_as : (f : PreparedFrame) (y x : Transfer) (r s : Request) (a b : List ℕ) → SameParcel y x → r ≡ s → a ≡ b → IsFrameOf f y r a → IsFrameOf f x s b
@@ -123,7 +123,7 @@ frame_as f y x r s a b p q e h =
       octets = subst (λ k. and_then (frame_of (header_of r.channel k h.polling) r.identity a f.token.frame) encode_of ≡ gives (record { octets = f.octets })) p.2 h.octets;
     }))
 
-module _ (v : View) (m : Lent) (calls : List Call) (c : Call) (f : PreparedFrame) (fr : Fresh v) (e : (doing v m calls c).frame ≡ some f) where
+module _ (v : View) (m : Lent) (calls : List Call) (c : Call) (f : PreparedFrame) (fr : Fresh v) (e : (doing v m calls c).frame ≡ Some f) where
   -- the sender then
   abbrev then_sender : View
   then_sender = (doing v m calls c).sender
@@ -182,14 +182,14 @@ module _ (v : View) (m : Lent) (calls between : List Call) (c d : Call) (f g : P
       subst (λ at. Later one.sender (does at.0 at.1 d).sender) (sym (run_behind v m calls c between))
       (doing_later one.sender one.lent between d (doing_later v m calls c (fresh_kept v fr)).0).1
 
-  module _ (e : one.frame ≡ some f) (q : g.partial_echo ≡ f.partial_echo) (late : two.sender.clock.last_ms < hold_of one.sender f.partial_echo) (t : Traced v m calls one.sender f) (s : Traced v m before two.sender g) where
+  module _ (e : one.frame ≡ Some f) (q : g.partial_echo ≡ f.partial_echo) (late : two.sender.clock.last_ms < hold_of one.sender f.partial_echo) (t : Traced v m calls one.sender f) (s : Traced v m before two.sender g) where
     -- both are of one transfer
     one_transfer : SameParcel s.transfer t.transfer
     one_transfer =
         let x = t.transfer in
         let y = s.transfer in
         let h = (doing_later v m calls c (fresh_kept v fr)).0 in
-        let i : Some (SameParcel y) two.sender.transfers = some-map (λ z r. (ap (λ (t : Transfer). t.parcel) (sym r), ap (λ (t : Transfer). t.generation) (sym r), ap (λ (t : Transfer). t.echo) (sym r))) s.live in
+        let i : Any (SameParcel y) two.sender.transfers = some-map (λ z r. (ap (λ (t : Transfer). t.parcel) (sym r), ap (λ (t : Transfer). t.generation) (sym r), ap (λ (t : Transfer). t.echo) (sym r))) s.live in
         let n : g.partial_echo ≡ y.echo = s.frame.echo in
         let l : two.sender.clock.last_ms < hold_of one.sender y.echo = subst (λ echo. two.sender.clock.last_ms < hold_of one.sender echo) (sym q ∙ n) late in
         one_live one.sender x y h (prompt v m calls c f fr e) t.live (between_later.back y l i) (sym n ∙ (q ∙ t.frame.echo))

@@ -1,51 +1,26 @@
 -- What each reading of an answer of the sender says: every value is told as it is. Assumes nothing.
 use mathlib.Core.Path.{◌≡◌, refl}
-use mathlib.Core.Bool.{Bool, false, cond, not}
+use mathlib.Core.Bool.{false, cond, not}
 use mathlib.Core.List.{[], ◌∷◌}
-use mathlib.Core.Option.{none, some}
+use Rattle.std.specs.Prelude.{None, Some}
 use Prim.Native.Nat.{ℕ, ◌-◌, ◌/◌, ◌%◌, ◌^◌, suc}
 use lib.Bits.{bit_and, bit_xor}
 use lib.Dec.{eqb}
-use lib.ListN.{replicate}
-use Rattle.rach.specs.declared.MobileIdentity.{MobileIdentity}
 use Rattle.spach.specs.Refusal.{gives, refuses, After}
-use Rattle.transfer.specs.declared.Addressee.TheVariants as addressees
-use Rattle.transfer.specs.declared.CompletionAnswer.TheVariants as completions
-use Rattle.transfer.specs.declared.Confirmation.TheVariants.{NotFound, Found}
 use Rattle.transfer.specs.declared.Event.{Event}
-use Rattle.transfer.specs.declared.FreeEcho.TheVariants as echoes
-use Rattle.transfer.specs.declared.NextEvent.TheVariants as nexts
 use Rattle.transfer.specs.Queue.{has, first_frames, continues_of, frame_alone, without, frames_from, frames_of}
-use Rattle.transfer.specs.State.{View, Lent, Out, blank_view, says, refusal, goes_on, blank_transfer}
-use Rattle.transfer.specs.Echo.{free_answer}
-use Rattle.transfer.specs.Numbers.{ending_of, next_of, confirmation_of, completion_of, addressee_of, refusal_of, failed}
+use Rattle.transfer.specs.State.{View, Lent, Out, says, refusal, goes_on, blank_transfer}
+use Rattle.transfer.specs.Numbers.{ending_of, next_of, refusal_of, failed}
 use Rattle.transfer.specs.declared.Event.TheVariants as events
 use Rattle.rach.specs.declared.MobileIdentity.TheVariants.{Tmsi20}
 use Rattle.spach.specs.declared.Channel.TheVariants.{Arch}
 use Rattle.transfer.specs.declared.Error.{Error}
-use Rattle.transfer.specs.declared.Since.TheVariants.{Never, Block}
 use Rattle.transfer.specs.declared.Transfer.{Transfer}
 use Rattle.transfer.specs.Refresh.{blocks_since, age_of}
 
 -- `pop_event`; what an event says is in Leaves, `endings`
-pub next_says : (next_of nexts.Nothing ≡ none) × ((e : Event) → next_of (nexts.Event e) ≡ some (ending_of e))
+pub next_says : (next_of None ≡ None) × ((e : Event) → next_of (Some e) ≡ Some (ending_of e))
 next_says = (refl, λ e. refl)
-
--- `transmitted`
-pub confirmation_says : (confirmation_of NotFound ≡ none) × ((b : Bool) → confirmation_of (Found b) ≡ some b)
-confirmation_says = (refl, λ b. refl)
-
--- `submitted_message`
-pub completion_says : (completion_of completions.Nothing ≡ none) × ((c : ℕ) → completion_of (completions.Completion c) ≡ some c)
-completion_says = (refl, λ c. refl)
-
--- `identity_for_echo`
-pub addressee_says : (addressee_of addressees.Nothing ≡ none) × ((i : MobileIdentity) → addressee_of (addressees.Identity i) ≡ some i)
-addressee_says = (refl, λ i. refl)
-
--- the search for an echo
-pub free-says : (free_answer echoes.Nothing ≡ none) × ((echo : ℕ) → free_answer (echoes.Echo echo) ≡ some echo)
-free-says = (refl, λ echo. refl)
 
 -- ---- words of the calls' definitions
 
@@ -68,18 +43,6 @@ has_exactly q k = refl
 pub sets_say : (n k a b : ℕ) → (first_frames n ≡ 2 ^ n - 1) × (continues_of n ≡ 2 ^ n - 2) × (frame_alone k ≡ 2 ^ k) × (without a b ≡ bit_xor a (bit_and a b))
 sets_say n k a b = (refl, refl, refl, refl)
 
--- beside a refused constructor: capacity 0, nothing held, every number 0
-pub blank_says : blank_view ≡ record {
-  limits = record { capacity = 0; startup_until_block = 0; echo_guard_ms = 0 };
-  clock = record { last_block = 0; last_ms = 0 };
-  transfers = [];
-  events = [];
-  echoes = record { echo_until_ms = replicate 128 0; next_echo = 0 };
-  selected = none;
-  next_token = 0;
-}
-blank_says = refl
-
 -- a Failed event tells its error's number, whatever the error
 pub failure_says : (completion : ℕ) (e : Error) → ending_of (events.Failed completion e) ≡ failed completion (refusal_of e)
 failure_says completion e = refl
@@ -90,7 +53,7 @@ pub blank_transfer_says : blank_transfer ≡ record {
   generation = record { 0 = 0 };
   sets = record { queue = 0; in_flight = 0; transmitted = 0; observed = 0; received_status = false };
   echo = 0;
-  blocks = record { last_progress = Never; last_frame = Never; waiting_since = Never };
+  blocks = record { last_progress = None; last_frame = None; waiting_since = None };
 }
 blank_transfer_says = refl
 
@@ -104,5 +67,5 @@ unfolding frames_of
 frames_of_says q = refl
 
 -- an age: blocks since the last frame; 0 of a transfer that is not ready
-pub age_says : (block b : ℕ) (x : Transfer) → (blocks_since block Never ≡ 0) × (blocks_since block (Block b) ≡ block - b) × (age_of block x ≡ cond (not (eqb x.sets.queue 0)) (blocks_since block x.blocks.last_frame) 0)
+pub age_says : (block b : ℕ) (x : Transfer) → (blocks_since block None ≡ 0) × (blocks_since block (Some b) ≡ block - b) × (age_of block x ≡ cond (not (eqb x.sets.queue 0)) (blocks_since block x.blocks.last_frame) 0)
 age_says block b x = (refl, refl, refl)

@@ -3,7 +3,7 @@ use mathlib.Core.Path.{◌≡◌, refl, sym, ap, subst, ◌∙◌}
 use mathlib.Core.Logic.{◌≢◌, ◌⊎◌, inl, inr, ⊎_elim, ◌↔◌}
 use mathlib.Core.Bool.{Bool, true, false, cond, not, ◌&&◌, ◌||◌}
 use mathlib.Core.List.{List, [], ◌∷◌, ◌++◌, foldl}
-use mathlib.Core.Option.{Option, none, some}
+use Rattle.std.specs.Prelude.{Option, None, Some}
 use Prim.Native.Nat.{ℕ, suc, ◌+◌, ◌*◌, ◌≤◌, ◌<◌}
 use native.Mathlib.Omega.{arith}
 use lib.Dec.{eqb, ltb}
@@ -43,7 +43,7 @@ use Rattle.transfer.specs.Advance.{fate_of, restart, landed, step, unasked, walk
 use Rattle.transfer.specs.Enqueue.{Grant, granted, allocated, grant_of, accepts, enqueue_of}
 use Rattle.transfer.specs.Prepare.{is_ready, packed_of, front_of, selects, choose_from, choose, prepare_of, repeated, only_echo, prioritize_at, prepare_prioritized_of}
 use Rattle.transfer.specs.Submitted.{is_selected, handed_in, submitted_at, submitted_of}
-use Rattle.transfer.specs.Invariant.{All, Some, Live, Selected, Sound}
+use Rattle.transfer.specs.Invariant.{All, Any, Live, Selected, Sound}
 use Rattle.transfer.proofs.Alive.{ready_some}
 use Rattle.transfer.proofs.EchoSearch.{none_free}
 use Rattle.transfer.proofs.Frames.{front_low}
@@ -84,9 +84,9 @@ abbrev Fronted : FrameToken → Transfer → Type 0
 Fronted t x = (x.generation.0 ≡ t.generation.0) × ((is_ready x ≡ true) × (eqb (front x.sets.queue) t.frame ≡ true))
 
 -- the selected frame's token names the front of a live transfer
-selected_fronted : (l : List Transfer) (next : ℕ) (t : FrameToken) (s : Option PreparedFrame) → Selected l next s → is_selected t s ≡ true → Some (Fronted t) l
-selected_fronted l next t none h e = absurd (true_false {x = false} e refl)
-selected_fronted l next t (some f) h e =
+selected_fronted : (l : List Transfer) (next : ℕ) (t : FrameToken) (s : Option PreparedFrame) → Selected l next s → is_selected t s ≡ true → Any (Fronted t) l
+selected_fronted l next t None h e = absurd (true_false {x = false} e refl)
+selected_fronted l next t (Some f) h e =
     let p = both (eqb f.token.generation.0 t.generation.0) (eqb f.token.submission.0 t.submission.0 && eqb f.token.frame t.frame) e in
     let q = both (eqb f.token.submission.0 t.submission.0) (eqb f.token.frame t.frame) p.1 in
     let g = eqb-true f.token.generation.0 t.generation.0 p.0 in
@@ -99,14 +99,14 @@ unfolding submitted_at
 selected_submits v m t h e =
     ap (λ (o : Out Unit). o.outcome) (pick_true (seek (of_generation t.generation) v.transfers (refusal 24 v m) found) (refusal 24 v m) e)
     ∙ seek_cases {X = Out Unit} (λ o. o.outcome ≡ gives tt) (of_generation t.generation) v.transfers (refusal 24 v m) found
-    (λ n. absurd (some_all (λ x a b. eqb-false x.generation.0 t.generation.0 b a.0) some n))
-    (λ i lt g. hands i (⊎_elim (λ k. k) (λ k. absurd (some_all (λ x a d. d.generation (eqb-true _ _ g ∙ sym a.0)) k (pairs-at v.transfers i blank_transfer lt (different_sym v.clock) h.different))) (some_removed v.transfers i blank_transfer lt some)))
+    (λ n. absurd (some_all (λ x a b. eqb-false x.generation.0 t.generation.0 b a.0) Some n))
+    (λ i lt g. hands i (⊎_elim (λ k. k) (λ k. absurd (some_all (λ x a d. d.generation (eqb-true _ _ g ∙ sym a.0)) k (pairs-at v.transfers i blank_transfer lt (different_sym v.clock) h.different))) (some_removed v.transfers i blank_transfer lt Some)))
   where
     found : ℕ → Transfer → Out Unit
     found place x = cond (is_ready x && eqb (front x.sets.queue) t.frame) (handed_in v m t place x) (refusal 24 v m)
 
-    some : Some (Fronted t) v.transfers
-    some = selected_fronted v.transfers v.next_token t v.selected h.selected e
+    Some : Any (Fronted t) v.transfers
+    Some = selected_fronted v.transfers v.next_token t v.selected h.selected e
 
     hands : (i : ℕ) → Fronted t (get_or v.transfers i blank_transfer) → (found i (get_or v.transfers i blank_transfer)).outcome ≡ gives tt
     hands i k =
@@ -188,9 +188,9 @@ unfolding choose
 choose_never v octets room h = go v.selected
   where
     go : (s : Option PreparedFrame) → Unrefused (choose_from v octets s)
-    go (some f) = says_never (some f) v
-    go none =
-        seek_cases {X = After (Option PreparedFrame) View} Unrefused is_ready v.transfers (says none v) (λ place x. selects v x (front_of x octets)) (λ n. says_never none v)
+    go (Some f) = says_never (Some f) v
+    go None =
+        seek_cases {X = After (Option PreparedFrame) View} Unrefused is_ready v.transfers (says None v) (λ place x. selects v x (front_of x octets)) (λ n. says_never None v)
         (λ i lt t. let x = get_or v.transfers i blank_transfer in
         let k = all-at v.transfers i blank_transfer lt h.transfers in
         let p = packed_gives v.limits v.clock v.echoes v.next_token x octets (front x.sets.queue) (one_left x.sets.queue) h.most_capacity room k (ready_low v.limits v.clock v.echoes v.next_token x k t) in
@@ -198,30 +198,30 @@ choose_never v octets room h = go v.selected
 
 -- it has no frame exactly if none is selected and no transfer has one queued: so no sender is idle
 pub choose_none_exactly : (v : View) (octets : List ℕ) → 32640 ≤ length octets → Sound v
-    → ((choose v octets).outcome ≡ gives none) ↔ ((v.selected ≡ none) × All (λ x. is_ready x ≡ false) v.transfers)
+    → ((choose v octets).outcome ≡ gives None) ↔ ((v.selected ≡ None) × All (λ x. is_ready x ≡ false) v.transfers)
 unfolding choose
 choose_none_exactly v octets room h = go v.selected
   where
-    go : (s : Option PreparedFrame) → ((choose_from v octets s).outcome ≡ gives none) ↔ ((s ≡ none) × All (λ x. is_ready x ≡ false) v.transfers)
-    go (some f) = ((λ e. let z : ◌≡◌ {A = ℕ} 0 1 = cc in absurd (omega arith)), (λ k. let q : some f ≡ none = k.0 in let z : ◌≡◌ {A = ℕ} 0 1 = cc in absurd (omega arith)))
-    go none = (
-      seek_cases {X = After (Option PreparedFrame) View} (λ a. a.outcome ≡ gives none → (◌≡◌ {A = Option PreparedFrame} none none) × All (λ x. is_ready x ≡ false) v.transfers) is_ready v.transfers (says none v) (λ place x. selects v x (front_of x octets)) (λ n e. (refl, n))
+    go : (s : Option PreparedFrame) → ((choose_from v octets s).outcome ≡ gives None) ↔ ((s ≡ None) × All (λ x. is_ready x ≡ false) v.transfers)
+    go (Some f) = ((λ e. let z : ◌≡◌ {A = ℕ} 0 1 = cc in absurd (omega arith)), (λ k. let q : Some f ≡ None = k.0 in let z : ◌≡◌ {A = ℕ} 0 1 = cc in absurd (omega arith)))
+    go None = (
+      seek_cases {X = After (Option PreparedFrame) View} (λ a. a.outcome ≡ gives None → (◌≡◌ {A = Option PreparedFrame} None None) × All (λ x. is_ready x ≡ false) v.transfers) is_ready v.transfers (says None v) (λ place x. selects v x (front_of x octets)) (λ n e. (refl, n))
           (λ i lt t e. let x = get_or v.transfers i blank_transfer in
           let k = all-at v.transfers i blank_transfer lt h.transfers in
           let p = packed_gives v.limits v.clock v.echoes v.next_token x octets (front x.sets.queue) (one_left x.sets.queue) h.most_capacity room k (ready_low v.limits v.clock v.echoes v.next_token x k t) in
-          let q : (selects v x (gives p.0)).outcome ≡ gives none = ap (λ (o : Outcome PackedFrame). (selects v x o).outcome) (sym p.1) ∙ e in
+          let q : (selects v x (gives p.0)).outcome ≡ gives None = ap (λ (o : Outcome PackedFrame). (selects v x o).outcome) (sym p.1) ∙ e in
           let z : ◌≡◌ {A = ℕ} 0 1 = cc in absurd (omega arith)),
-      (λ k. seek_cases {X = After (Option PreparedFrame) View} (λ a. a.outcome ≡ gives none) is_ready v.transfers (says none v) (λ place x. selects v x (front_of x octets)) (λ n. refl)
+      (λ k. seek_cases {X = After (Option PreparedFrame) View} (λ a. a.outcome ≡ gives None) is_ready v.transfers (says None v) (λ place x. selects v x (front_of x octets)) (λ n. refl)
           (λ i lt t. absurd (true_false t (all-at v.transfers i blank_transfer lt k.1)))),
     )
 
 -- nor with a transfer put first
 pub prioritize_never : (v : View) (octets : List ℕ) (echo : ℕ) → 32640 ≤ length octets → Sound v → (n : ℕ) → (prioritize_at v octets echo).outcome ≢ refuses n
 prioritize_never v octets echo room h =
-    prioritize_cases Unrefused v octets echo (says_never none v)
+    prioritize_cases Unrefused v octets echo (says_never None v)
     (λ i lt. let x = get_or v.transfers i blank_transfer in
     let w = with_selected (with_transfers v (repeated x ∷ remove_at i v.transfers)) (only_echo echo v.selected) in
-    (choose_never w octets room (prioritized-kept v i echo x lt refl h), says_never none w))
+    (choose_never w octets room (prioritized-kept v i echo x lt refl h), says_never None w))
 
 -- the numbers by which a call with a clock refuses at first
 abbrev pub AtFirst : ℕ → Type 0
@@ -255,7 +255,7 @@ prepare_answers v m block now n h =
 
 -- so `prepare`, at a clock that is let through, after its `advance`
 pub prepare_none_exactly : (v : View) (m : Lent) (block now : ℕ) (w : View) → Sound v → admitted v m block now ≡ gives w
-    → ((prepare_of v m block now).outcome ≡ gives none) ↔ (((walked w).selected ≡ none) × All (λ x. is_ready x ≡ false) (walked w).transfers)
+    → ((prepare_of v m block now).outcome ≡ gives None) ↔ (((walked w).selected ≡ None) × All (λ x. is_ready x ≡ false) (walked w).transfers)
 unfolding prepare_of
 prepare_none_exactly v m block now w h e =
     rw (ap (λ (o : Outcome View). (onward v o (λ u. choose (walked u) m.octets)).outcome) e)
@@ -282,16 +282,16 @@ allocated_21_exactly l c e deadline frames long low =
     Late = (c.last_block < l.startup_until_block) ⊎ ((held_until l deadline ≤ stop) × ((k : ℕ) → k < 128 → c.last_ms < get_or e.echo_until_ms k 0))
 
     go : (a b : Bool) (o : Option ℕ) → ltb c.last_block l.startup_until_block ≡ a → ltb stop (held_until l deadline) ≡ b → free_echo e c.last_ms ≡ o
-        → ((free_echo e c.last_ms ≡ none) ↔ ((k : ℕ) → k < 128 → c.last_ms < get_or e.echo_until_ms k 0)) → (refuse a 21 (refuse b 23 (granted frames o)) ≡ refuses 21) ↔ Late
+        → ((free_echo e c.last_ms ≡ None) ↔ ((k : ℕ) → k < 128 → c.last_ms < get_or e.echo_until_ms k 0)) → (refuse a 21 (refuse b 23 (granted frames o)) ≡ refuses 21) ↔ Late
     go true b o qa qb qo exact = ((λ q. inl (ltb-true c.last_block l.startup_until_block qa)), (λ k. refl))
     go false true o qa qb qo exact = (
       (λ q. let z : ◌≡◌ {A = ℕ} 23 21 = cc in absurd (omega arith)),
       ⊎_elim (λ lt. let r = ltb-false c.last_block l.startup_until_block qa in absurd (omega arith)) (λ k. let r = ltb-true stop (held_until l deadline) qb in let f = k.0 in absurd (omega arith)),
     )
-    go false false none qa qb qo exact = ((λ q. inr (ltb-false stop (held_until l deadline) qb, exact.0 qo)), (λ k. refl))
-    go false false (some echo) qa qb qo exact = (
+    go false false None qa qb qo exact = ((λ q. inr (ltb-false stop (held_until l deadline) qb, exact.0 qo)), (λ k. refl))
+    go false false (Some echo) qa qb qo exact = (
       (λ q. let z : ◌≡◌ {A = ℕ} 0 1 = cc in absurd (omega arith)),
-      ⊎_elim (λ lt. let r = ltb-false c.last_block l.startup_until_block qa in absurd (omega arith)) (λ k. let r : some echo ≡ none = sym qo ∙ exact.1 k.1 in let z : ◌≡◌ {A = ℕ} 0 1 = cc in absurd (omega arith)),
+      ⊎_elim (λ lt. let r = ltb-false c.last_block l.startup_until_block qa in absurd (omega arith)) (λ k. let r : Some echo ≡ None = sym qo ∙ exact.1 k.1 in let z : ◌≡◌ {A = ℕ} 0 1 = cc in absurd (omega arith)),
     )
 
 -- ---- a restart that fails
@@ -301,8 +301,8 @@ abbrev Rounded : View → Type 0
 Rounded v = (length v.echoes.echo_until_ms ≡ 128) × (v.echoes.next_echo < 128)
 
 restart_rounded : (v : View) (x : Transfer) (o : Option ℕ) → Rounded v → Rounded (restart v x o)
-restart_rounded v x none h = h
-restart_rounded v x (some echo) h = (length-set v.echoes.echo_until_ms echo _ ∙ h.0, omega arith)
+restart_rounded v x None h = h
+restart_rounded v x (Some echo) h = (length-set v.echoes.echo_until_ms echo _ ∙ h.0, omega arith)
 
 landed_rounded : (v : View) (x : Transfer) (f : Fate) → Rounded v → Rounded (landed v x f)
 landed_rounded v x (Ends e) h = h

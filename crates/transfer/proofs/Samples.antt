@@ -4,7 +4,7 @@
 use mathlib.Core.Path.{◌≡◌, refl}
 use mathlib.Core.Bool.{Bool, true, false}
 use mathlib.Core.List.{List, [], ◌∷◌, ◌++◌, map}
-use mathlib.Core.Option.{Option, none, some}
+use Rattle.std.specs.Prelude.{Option, None, Some}
 use Prim.Native.Nat.{ℕ, ◌+◌}
 use lib.Count.{ones, ones_in, count_trailing_zeros}
 use lib.ListN.{take, drop, get_or, replicate}
@@ -21,8 +21,6 @@ use Rattle.arq.specs.Encode.{encode_of}
 use Rattle.arq.specs.Cut.{count_of, frame_of}
 use Rattle.transfer.specs.declared.FrameToken.{FrameToken}
 use Rattle.transfer.specs.declared.Event.{Event}
-use Rattle.transfer.specs.declared.Since.{Since}
-use Rattle.transfer.specs.declared.Since.TheVariants.{Never, Block}
 use Rattle.transfer.specs.declared.Transfer.{Transfer}
 use Rattle.transfer.specs.declared.PreparedFrame.{PreparedFrame}
 use Rattle.transfer.specs.Queue.{frames_of}
@@ -84,20 +82,20 @@ outcome f (gives a) = f a
 outcome f (refuses n) = refused n
 
 abbrev prepared : Option PreparedFrame → Line
-prepared none = nothing
-prepared (some f) = frame f.token.generation.0 f.token.submission.0 f.token.frame f.partial_echo f.octets
+prepared None = nothing
+prepared (Some f) = frame f.token.generation.0 f.token.submission.0 f.token.frame f.partial_echo f.octets
 
 abbrev confirmation : Option Bool → Line
-confirmation none = unknown
-confirmation (some b) = confirmed b
+confirmation None = unknown
+confirmation (Some b) = confirmed b
 
 abbrev completion : Option ℕ → Line
-completion none = nothing
-completion (some c) = number c
+completion None = nothing
+completion (Some c) = number c
 
 abbrev addressee : Option MobileIdentity → Line
-addressee none = nothing
-addressee (some i) = to i
+addressee None = nothing
+addressee (Some i) = to i
 
 abbrev kind_of : Ending → ℕ × ℕ
 kind_of (complete c) = (0, c)
@@ -106,12 +104,12 @@ kind_of (cancelled c) = (2, c)
 kind_of (failed c n) = (n, c)
 
 abbrev next_event : Option Ending → Line
-next_event none = nothing
-next_event (some e) = let k = kind_of e in event k.0 k.1
+next_event None = nothing
+next_event (Some e) = let k = kind_of e in event k.0 k.1
 
-abbrev since_number : Since → ℕ
-since_number Never = 0
-since_number (Block b) = b + 1
+abbrev since_number : Option ℕ → ℕ
+since_number None = 0
+since_number (Some b) = b + 1
 
 abbrev transfer_numbers : Transfer → List ℕ
 transfer_numbers x =
@@ -138,8 +136,8 @@ event_numbers [] = []
 event_numbers (e ∷ l) = let k = kind_of (ending_of e) in k.0 ∷ k.1 ∷ event_numbers l
 
 abbrev selected_numbers : Option PreparedFrame → List ℕ
-selected_numbers none = []
-selected_numbers (some f) = f.token.generation.0 ∷ f.token.submission.0 ∷ f.token.frame ∷ f.partial_echo ∷ []
+selected_numbers None = []
+selected_numbers (Some f) = f.token.generation.0 ∷ f.token.submission.0 ∷ f.token.frame ∷ f.partial_echo ∷ []
 
 abbrev whole_of : View → Line
 whole_of v = whole (map transfer_numbers v.transfers) (event_numbers v.events) (selected_numbers v.selected) (v.echoes.next_echo ∷ v.clock.last_block ∷ v.clock.last_ms ∷ v.next_token ∷ [])
@@ -216,7 +214,7 @@ crowded deadline v = record {
   transfers = [];
   events = [];
   echoes = record { echo_until_ms = replicate 127 (deadline + v.limits.echo_guard_ms) ++ 0 ∷ []; next_echo = 127 };
-  selected = none;
+  selected = None;
   next_token = v.next_token + 127;
 }
 
@@ -232,7 +230,7 @@ left deadlines v = record {
   transfers = [];
   events = [];
   echoes = record { echo_until_ms = map (λ d. d + v.limits.echo_guard_ms) deadlines; next_echo = 0 };
-  selected = none;
+  selected = None;
   next_token = v.next_token + 128;
 }
 

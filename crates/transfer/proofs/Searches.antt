@@ -2,15 +2,13 @@
 use mathlib.Core.Path.{◌≡◌, refl, sym, ap, ◌∙◌}
 use mathlib.Core.Bool.{Bool, true, false, cond}
 use mathlib.Core.List.{List, [], ◌∷◌, map, foldl}
-use mathlib.Core.Option.{Option, none, some}
+use Rattle.std.specs.Prelude.{Option, None, Some}
 use Prim.Native.Nat.{ℕ, zero, suc, ◌+◌, ◌-◌, ◌%◌, ◌≤◌, ◌<◌}
 use native.Mathlib.Numerals.{add-one}
 use native.Mathlib.Omega.{arith}
 use borrow.Author.Tests.{leb-true, leb-false, lt-leb, lt-ltb, le-ltb}
 use lib.Dec.{leb}
 use lib.ListN.{length, get_or, length-map}
-use Rattle.transfer.specs.declared.Since.{Since}
-use Rattle.transfer.specs.declared.Since.TheVariants.{Never, Block}
 use Rattle.transfer.specs.declared.Transfer.{Transfer}
 use Rattle.transfer.specs.Iterators.{range, find, filter, in_front, enumerate, filter_map, greater, max_by_key}
 use Rattle.transfer.specs.Lists.{position}
@@ -35,7 +33,7 @@ module _ (e : Echoes) (long : length e.echo_until_ms ≡ 128) (low : e.next_echo
   search-from zero k h q = around_none e.echo_until_ms e.next_echo long low now k q (omega arith)
   search-from (suc n) k h q = go (released (turned k)) refl (search-from n (suc k) (omega arith))
     where
-      go : (b : Bool) → released (turned k) ≡ b → (position (free now) (around e) ≡ position_from (free now) (around e) 0 (suc k) → find released (map turned (range n (suc k))) ≡ free_echo e now) → cond b (some (turned k)) (find released (map turned (range n (suc k)))) ≡ free_echo e now
+      go : (b : Bool) → released (turned k) ≡ b → (position (free now) (around e) ≡ position_from (free now) (around e) 0 (suc k) → find released (map turned (range n (suc k))) ≡ free_echo e now) → cond b (Some (turned k)) (find released (map turned (range n (suc k)))) ≡ free_echo e now
       go true t f = around_here e.echo_until_ms e.next_echo long low now k q (omega arith) (leb-true _ _ t)
       go false t f =
           let r = around_next e.echo_until_ms e.next_echo long low now k q (omega arith) (leb-false _ _ t) in
@@ -77,9 +75,9 @@ module _ (block : ℕ) where
         go false q true r = absurd (omega (arith, leb-false 16 age q, leb-true top age r))
         go false q false r = f best top h
 
-    since : (s : Since) → (foldl greater (best, top) (filter old (in_front (aged_literal block i s) later))).0 ≡ oldest_from best top i (blocks_since block s ∷ map (age_of block) l)
-    since Never = skipped 0 (omega arith)
-    since (Block b) = compared_age (block - b)
+    since : (s : Option ℕ) → (foldl greater (best, top) (filter old (in_front (aged_literal block i s) later))).0 ≡ oldest_from best top i (blocks_since block s ∷ map (age_of block) l)
+    since None = skipped 0 (omega arith)
+    since (Some b) = compared_age (block - b)
 
     ready : (r : Bool) → (foldl greater (best, top) (filter old (filter_map (λ p. aged_literal block p.0 p.1.blocks.last_frame) (cond r ((i, x) ∷ filter (λ p. is_ready p.1) (enumerate (suc i) l)) (filter (λ p. is_ready p.1) (enumerate (suc i) l)))))).0
         ≡ oldest_from best top i (cond r (blocks_since block x.blocks.last_frame) 0 ∷ map (age_of block) l)
@@ -92,8 +90,8 @@ module _ (block : ℕ) where
 
 -- the place that was found, or another
 abbrev placed : ℕ → Option (ℕ × ℕ) → ℕ
-placed best none = best
-placed best (some p) = p.0
+placed best None = best
+placed best (Some p) = p.0
 
 -- the greatest of those that pass is the greatest after an age of 16
 passing : (l : List (ℕ × ℕ)) (best : ℕ) → placed best (max_by_key (filter old l)) ≡ (foldl greater (best, 16) (filter old l)).0
@@ -124,10 +122,10 @@ module _ (block : ℕ) (l : List Transfer) where
   fronted-literal v e = go (oldest_literal block l) refl
     where
       go : (o : Option (ℕ × ℕ)) → oldest_literal block l ≡ o → fronted_literal v o ≡ with_transfers v (to_front (oldest_from (length l) 16 0 (map (age_of block) l)) l)
-      go none q =
+      go None q =
           let r : length l ≡ oldest_from (length l) 16 0 (map (age_of block) l) = ap (placed (length l)) (sym q) ∙ found_place (length l) in
           rw (sym r, le-ltb (length l) (length l) (omega arith), sym e)
-      go (some p) q =
+      go (Some p) q =
           let r : (best : ℕ) → p.0 ≡ oldest_from best 16 0 (map (age_of block) l) = λ best. ap (placed best) (sym q) ∙ found_place best in
           rw (sym (r (length l)), lt-ltb p.0 (length l) (low l r), e)
         where

@@ -3,7 +3,7 @@ use mathlib.Core.Path.{◌≡◌, refl, sym, ap, subst, ◌∙◌}
 use mathlib.Core.Logic.{◌⊎◌, inl, inr, ⊎_elim, ◌≢◌}
 use mathlib.Core.Bool.{false}
 use mathlib.Core.List.{List, [], ◌∷◌}
-use mathlib.Core.Option.{some}
+use Rattle.std.specs.Prelude.{Some}
 use Prim.Native.Nat.{ℕ, ◌+◌, ◌≤◌, ◌<◌}
 use native.Mathlib.Omega.{arith}
 use lib.Dec.{eqb}
@@ -18,7 +18,7 @@ use Rattle.transfer.specs.Echo.{free_echo, held_until, hold}
 use Rattle.transfer.specs.Transfer.{begun}
 use Rattle.transfer.specs.Advance.{overdue}
 use Rattle.transfer.specs.Enqueue.{parcel_of, lowest_n, granted, allocated}
-use Rattle.transfer.specs.Invariant.{All, all_none, all_more, Some, some-here, some-later, Live, Sound, Pairs, pairs-none, pairs-more}
+use Rattle.transfer.specs.Invariant.{All, all_none, all_more, Any, any-here, any-later, Live, Sound, Pairs, pairs-none, pairs-more}
 use Rattle.transfer.specs.History.{Call, Done, does, Told, after, run, Each, hold_of, Takes, TakenFree, NoneBefore, TakenTwice, TwoSenders, TakenApart}
 use Rattle.transfer.proofs.Listed.{all_map, all_both, all_one, all_rest, all_in, all_back, some-map, some_all}
 use Rattle.transfer.proofs.Alive.{SameParcel}
@@ -30,7 +30,7 @@ use Rattle.transfer.proofs.Moves.{Move, drops, picks, shifts, restarts, ends, Mo
 
 -- a transfer of this parcel, generation and echo was there
 abbrev Of : View → Transfer → Type 0
-Of v x = Some (SameParcel x) v.transfers
+Of v x = Any (SameParcel x) v.transfers
 
 -- or its echo was held until now or earlier, and its deadline is later
 abbrev Comes : (now : ℕ) → View → Transfer → Type 0
@@ -54,9 +54,9 @@ same_of : (v : View) (y x : Transfer) → SameParcel y x → Of v x → Of v y
 same_of v y x s h = some-map (λ z t. (s.0 ∙ t.0, s.1 ∙ t.1, s.2 ∙ t.2)) h
 
 -- each was there itself
-each_of : (l : List Transfer) → All (λ x. Some (SameParcel x) l) l
+each_of : (l : List Transfer) → All (λ x. Any (SameParcel x) l) l
 each_of [] = all_none
-each_of (x ∷ l) = all_more (some-here (refl, refl, refl)) (all_map (λ y h. some-later h) (each_of l))
+each_of (x ∷ l) = all_more (any-here (refl, refl, refl)) (all_map (λ y h. any-later h) (each_of l))
 
 -- ---- an echo is taken
 
@@ -91,7 +91,7 @@ module _ (now : ℕ) (v : View) where
   )
 
   -- an echo that is free is held until later, and a transfer has it whose deadline is to come
-  made_held : (u w : View) (echo deadline : ℕ) → w.limits ≡ u.limits → w.clock ≡ u.clock → w.echoes ≡ hold u.echoes echo (held_until u.limits deadline) → free_echo u.echoes u.clock.last_ms ≡ some echo → u.clock.last_ms < deadline
+  made_held : (u w : View) (echo deadline : ℕ) → w.limits ≡ u.limits → w.clock ≡ u.clock → w.echoes ≡ hold u.echoes echo (held_until u.limits deadline) → free_echo u.echoes u.clock.last_ms ≡ Some echo → u.clock.last_ms < deadline
       → ((hold_of v echo ≤ now) × (now < deadline) → All (Comes now v) w.transfers) → Made u → Made w
   made_held u w echo deadline l c e q d t h =
       let f = free_now u.echoes h.1.0 h.1.1 u.clock.last_ms q in

@@ -4,7 +4,7 @@ use mathlib.Core.Path.{◌≡◌, refl, sym, ap, ◌∙◌}
 use mathlib.Core.Logic.{◌≢◌}
 use mathlib.Core.Bool.{Bool, true, false, cond, ◌||◌}
 use mathlib.Core.List.{List, [], ◌∷◌, ◌++◌, foldl}
-use mathlib.Core.Option.{Option, none, some}
+use Rattle.std.specs.Prelude.{Option, None, Some}
 use Prim.Native.Nat.{ℕ, suc, ◌+◌, ◌≤◌, ◌<◌}
 use native.Mathlib.Omega.{arith}
 use lib.ListN.{length}
@@ -27,7 +27,7 @@ use Rattle.transfer.proofs.Alive.{begun_live}
 -- ---- a restart
 
 -- it keeps `Sound`, under a free echo, while a token is left
-module _ (v : View) (a : List Transfer) (x : Transfer) (b : List Transfer) (h : Sound (with_transfers v (a ++ x ∷ b))) {echo : ℕ} (q : free_echo v.echoes v.clock.last_ms ≡ some echo) where
+module _ (v : View) (a : List Transfer) (x : Transfer) (b : List Transfer) (h : Sound (with_transfers v (a ++ x ∷ b))) {echo : ℕ} (q : free_echo v.echoes v.clock.last_ms ≡ Some echo) where
   -- what begins
   abbrev begins : Transfer
   begins = begun x.parcel echo v.next_token
@@ -49,8 +49,8 @@ module _ (v : View) (a : List Transfer) (x : Transfer) (b : List Transfer) (h : 
 
   -- what is selected of the others is so with it among them
   selected_in : (next : ℕ) (s : Option PreparedFrame) → Selected (a ++ b) next s → Selected (a ++ begins ∷ b) next s
-  selected_in next none k = tt
-  selected_in next (some f) k = (some_in a begins b k.0, k.1)
+  selected_in next None k = tt
+  selected_in next (Some f) k = (some_in a begins b k.0, k.1)
 
   -- it begins, at the place of the old one
   pub begun_kept : v.next_token < stop → Sound (with_transfers (token_taken (with_echoes (clear_selected v x.generation) (hold v.echoes echo (held_until v.limits x.parcel.deadline_ms)))) (a ++ begins ∷ b))
@@ -98,8 +98,8 @@ pub record Near (most : ℕ) (v w : View) : Type 0 where
 
 -- a restart takes one token, or none
 restart_near : (v : View) (x : Transfer) (o : Option ℕ) → Near 1 v (restart v x o)
-restart_near v x none = record { limits = refl; clock = refl; tokens = omega arith }
-restart_near v x (some echo) = record { limits = refl; clock = refl; tokens = omega arith }
+restart_near v x None = record { limits = refl; clock = refl; tokens = omega arith }
+restart_near v x (Some echo) = record { limits = refl; clock = refl; tokens = omega arith }
 
 -- and no other fate takes one
 landed_near : (v : View) (x : Transfer) (f : Fate) → Near 1 v (landed v x f)

@@ -2,7 +2,7 @@
 use mathlib.Core.Path.{◌≡◌, refl, sym, ap, subst}
 use mathlib.Core.Bool.{Bool, true, false}
 use mathlib.Core.List.{List, [], ◌∷◌}
-use mathlib.Core.Option.{some}
+use Rattle.std.specs.Prelude.{Some}
 use native.Mathlib.Omega.{arith}
 use lib.Count.{ones, ones_in, count_trailing_zeros}
 use lib.ListN.{get_or, replicate}
@@ -45,7 +45,7 @@ frame = record {
 }
 
 -- it is prepared
-prepared : let at = run_alone sender lends calls in (does at.0 at.1 call).frame ≡ some frame
+prepared : let at = run_alone sender lends calls in (does at.0 at.1 call).frame ≡ Some frame
 unfolding calls call frame run_alone octets bits_of bits value layout up_to any_set same in_range encodable packed begin_frame continue_frame encode_of count_of frame_of ones ones_in count_trailing_zeros free_echo done_of settle_of fate_of step walk walked grant_of accepts enqueue_of packed_of choose prepare_of prioritize_at prepare_prioritized_of
 prepared = refl
 

@@ -2,7 +2,7 @@
 -- Believe `fate_of`, which looks at the transfer, the clock and whether a restart is asked for, and `restart`. Assumes nothing.
 use Rattle.std.specs.Prelude.{Bool, false, cond, ◌||◌, ℕ, leb}
 use mathlib.Core.List.{List, [], map, foldl}
-use Rattle.std.proofs.Math.Option.{Option, none, some}
+use Rattle.std.specs.Prelude.{Option, None, Some}
 use Rattle.spach.specs.Refusal.{After, onward}
 use Rattle.transfer.specs.declared.Error.TheVariants.{EchoExhausted}
 use Rattle.transfer.specs.declared.Transfer.{Transfer}
@@ -35,8 +35,8 @@ kept v x = with_transfers v (push_back v.transfers x)
 -- a restart takes a free echo, held until deadline plus guard, and the next token as generation; with none free it is Failed.
 -- (The Rust tests the first block and the sum once more. A live transfer has passed both at `enqueue`.)
 abbrev pub restart : View → Transfer → (free : Option ℕ) → View
-restart v x none = ended v x (event_of x (fails EchoExhausted))
-restart v x (some echo) =
+restart v x None = ended v x (event_of x (fails EchoExhausted))
+restart v x (Some echo) =
     kept
     (token_taken (with_echoes (clear_selected v x.generation) (hold v.echoes echo (held_until v.limits x.parcel.deadline_ms))))
     (begun x.parcel echo v.next_token)

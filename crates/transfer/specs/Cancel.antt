@@ -1,7 +1,7 @@
 -- 01, module 6: `cancel`, `cancel_transaction` and `cancel_all`. They never refuse, and have no clock. Believe each: they are the
 -- Rust's lines. Assumes nothing.
 use Rattle.std.specs.Prelude.{Bool, true, false, [], ◌++◌, map, eqb}
-use Rattle.std.proofs.Math.Option.{none}
+use Rattle.std.specs.Prelude.{None}
 use Rattle.rach.specs.declared.MobileIdentity.{MobileIdentity}
 use Rattle.spach.specs.Refusal.{After}
 use Rattle.transfer.specs.declared.TransferToken.{TransferToken}
@@ -27,4 +27,4 @@ cancel_transaction_of v t = cancel_first (owned_by t) v
 
 -- all of them, in their order; nothing is selected any more
 unfoldable pub cancel_all_of : View → View
-cancel_all_of v = with_selected (with_transfers (with_events v (v.events ++ map (λ x. event_of x cancels) v.transfers)) []) none
+cancel_all_of v = with_selected (with_transfers (with_events v (v.events ++ map (λ x. event_of x cancels) v.transfers)) []) None

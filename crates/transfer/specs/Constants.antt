@@ -1,5 +1,5 @@
--- 01, module 6: the Rust's constants, and the sizes of the lent memory. The code has them under the same names in src/constants.rt, where a
--- contract ties each pair. Believe each line. Assumes nothing.
+-- 01, module 6: the Rust's constants, and the sizes of the lent memory. The code has them under the same names in src/constants.rt, and
+-- proofs/Tied.antt ties each pair. Believe each line. Assumes nothing.
 use Rattle.std.specs.Prelude.{ℕ}
 
 -- ECHO_VALUES: echoes are 0 to 127, and a sender has at most so many transfers

@@ -1,9 +1,7 @@
 -- 01, module 6: echoes are sought from `next_echo` round 0 to 127, free when held until now or earlier.
 -- Believe `free` and `around`, whose first free one is `free_echo`, and `held_until` and `hold`: until when an echo is held. Assumes nothing.
 use Rattle.std.specs.Prelude.{Bool, cond, List, ◌++◌, ℕ, ◌+◌, ◌%◌, leb, ltb, take, drop, set}
-use Rattle.std.proofs.Math.Option.{Option, none, some}
-use Rattle.transfer.specs.declared.FreeEcho.{FreeEcho}
-use Rattle.transfer.specs.declared.FreeEcho.TheVariants.{Nothing, Echo}
+use Rattle.std.specs.Prelude.{Option, None, Some}
 use Rattle.transfer.specs.Constants.{echo_values}
 use Rattle.transfer.specs.Lists.{position}
 use Rattle.transfer.specs.State.{Limits, Echoes}
@@ -20,12 +18,7 @@ around e = drop e.next_echo e.echo_until_ms ++ take e.next_echo e.echo_until_ms
 unfoldable pub free_echo : Echoes → (now : ℕ) → Option ℕ
 free_echo e now =
     let offset = position (free now) (around e) in
-    cond (ltb offset echo_values) (some ((e.next_echo + offset) % echo_values)) none
-
--- what the search answers
-abbrev pub free_answer : FreeEcho → Option ℕ
-free_answer Nothing = none
-free_answer (Echo echo) = some echo
+    cond (ltb offset echo_values) (Some ((e.next_echo + offset) % echo_values)) None
 
 -- deadline plus guard: until then an echo is held
 abbrev pub held_until : Limits → (deadline : ℕ) → ℕ

@@ -3,7 +3,7 @@
 -- 23; no echo free 21. An accepted clock stays moved. Believe `grant_of`, the refusals, and `accepts`, what a request that passes
 -- them leaves. Assumes nothing.
 use Rattle.std.specs.Prelude.{Bool, false, cond, not, ◌&&◌, List, ◌++◌, ℕ, zero, suc, ◌+◌, ◌*◌, eqb, leb, ltb, length, take, drop}
-use Rattle.std.proofs.Math.Option.{Option, none, some}
+use Rattle.std.specs.Prelude.{Option, None, Some}
 use Rattle.token.specs.Token.{stop}
 use Rattle.rach.specs.Identity.{same}
 use Rattle.rach.specs.declared.MobileIdentity.{MobileIdentity}
@@ -12,6 +12,7 @@ use Rattle.arq.specs.Cut.{count_of}
 use Rattle.transfer.specs.declared.TransferToken.{TransferToken}
 use Rattle.transfer.specs.declared.Request.{Request}
 use Rattle.transfer.specs.declared.Parcel.{Parcel}
+pub use Rattle.transfer.specs.declared.Grant.{Grant}
 use Rattle.transfer.specs.declared.Transfer.{Transfer}
 use Rattle.transfer.specs.Constants.{echo_values, message_octets_lem}
 use Rattle.transfer.specs.Lists.{any}
@@ -24,15 +25,10 @@ use Rattle.transfer.specs.Advance.{kept}
 abbrev pub addressed : MobileIdentity → Transfer → Bool
 addressed i x = same x.parcel.identity i
 
--- what a request that is not refused is given
-pub record Grant : Type 0 where
-  pub frames : ℕ
-  pub echo : ℕ
-
--- no echo free 21
+-- a request that is not refused is given so many frames and an echo (the record of src/lib.rt); no echo free 21
 abbrev pub granted : (frames : ℕ) → (free : Option ℕ) → Outcome Grant
-granted frames none = refuses 21
-granted frames (some echo) = gives (record { frames = frames; echo = echo })
+granted frames None = refuses 21
+granted frames (Some echo) = gives (record { frames = frames; echo = echo })
 
 -- `allocate_echo`: before the first block 21; deadline plus guard over 64 bits 23; no echo free 21
 abbrev pub allocated : Limits → Clock → Echoes → (deadline frames : ℕ) → Outcome Grant

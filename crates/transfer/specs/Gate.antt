@@ -5,7 +5,7 @@
 use Rattle.std.specs.Prelude.{◌≡◌, ◌⊎◌, ℕ, ◌+◌, ◌≤◌, ◌<◌, length}
 use Rattle.std.proofs.Common.{inl, inr}
 use mathlib.Core.List.{List, [], ◌∷◌, ◌++◌, Memᴰ}
-use Rattle.std.proofs.Math.Option.{some}
+use Rattle.std.specs.Prelude.{Some}
 use Rattle.field.specs.Bits.{Octets}
 use Rattle.rach.specs.declared.MobileIdentity.{MobileIdentity}
 use Rattle.spach.specs.Refusal.{gives}
@@ -32,7 +32,7 @@ doing v m earlier c = let at = run_alone v m earlier in does at.0 at.1 c
 abbrev pub HeldFor : Type 0
 HeldFor = (v : View) (m : Lent) (calls : List Call) (c : Call) (f : PreparedFrame) → Fresh v →
     let d = doing v m calls c in
-    d.frame ≡ some f → (t : Traced v m calls d.sender f) →
+    d.frame ≡ Some f → (t : Traced v m calls d.sender f) →
     hold_of d.sender f.partial_echo ≡ held_until v.limits t.request.deadline_ms
 
 -- two frames of one echo, the second prepared while the first one's hold lasts, are of one order: the second is a frame of the
@@ -41,7 +41,7 @@ abbrev pub OneOrder : Type 0
 OneOrder = (v : View) (m : Lent) (calls between : List Call) (c d : Call) (f g : PreparedFrame) → Fresh v →
     let one = doing v m calls c in
     let two = doing v m (calls ++ c ∷ between) d in
-    one.frame ≡ some f → two.frame ≡ some g → g.partial_echo ≡ f.partial_echo →
+    one.frame ≡ Some f → two.frame ≡ Some g → g.partial_echo ≡ f.partial_echo →
     two.sender.clock.last_ms < hold_of one.sender f.partial_echo →
     (t : Traced v m calls one.sender f) → IsFrameOf g t.transfer t.request t.message
 
@@ -54,7 +54,7 @@ pub record Sent (v : View) (m : Lent) (calls : List Call) (f : ArqFrame) : Type 
   pub later : List Call
   pub split : calls ≡ earlier ++ call ∷ later
   pub frame : PreparedFrame
-  pub prepared : (doing v m earlier call).frame ≡ some frame
+  pub prepared : (doing v m earlier call).frame ≡ Some frame
   pub decodes : decode_of frame.octets ≡ gives f
 
 -- the times of a frame that was sent, in milliseconds
@@ -130,7 +130,7 @@ StartsLate v m first w n second =
 -- such a sender prepares no frame before every hold of the first has ended
 abbrev pub LateFrames : Type 0
 LateFrames = (v w : View) (m n : Lent) (first earlier later : List Call) (c : Call) (f : PreparedFrame) → Fresh v → Fresh w →
-    StartsLate v m first w n (earlier ++ c ∷ later) → (doing w n earlier c).frame ≡ some f →
+    StartsLate v m first w n (earlier ++ c ∷ later) → (doing w n earlier c).frame ≡ Some f →
     (echo : ℕ) → hold_of (run_alone v m first).0 echo ≤ (doing w n earlier c).sender.clock.last_ms
 
 -- a frame that is heard was sent by the one or the other

@@ -5,7 +5,7 @@
 -- Instance.antt and Witness.antt show that they are not empty.
 -- Assumes nothing.
 use Rattle.std.specs.Prelude.{◌≡◌, ◌≢◌, Bool, List, [], ◌∷◌, ◌++◌, ℕ, ◌≤◌, get_or}
-use Rattle.std.proofs.Math.Option.{Option, none, some}
+use Rattle.std.specs.Prelude.{Option, None, Some}
 use Rattle.token.specs.Token.{stop}
 use Rattle.rach.specs.declared.MobileIdentity.{MobileIdentity}
 use Rattle.spach.specs.Refusal.{Outcome, gives, refuses, and_then, After}
@@ -29,7 +29,7 @@ use Rattle.transfer.specs.Status.{status_of}
 use Rattle.transfer.specs.Cancel.{cancel_of, cancel_transaction_of, cancel_all_of}
 use Rattle.transfer.specs.Refresh.{refresh_waiting_of}
 use Rattle.transfer.specs.Queries.{pop_event_of}
-use Rattle.transfer.specs.Invariant.{Some, Pairs}
+use Rattle.transfer.specs.Invariant.{Any, Pairs}
 
 -- ---- calls
 
@@ -66,38 +66,38 @@ pub record Done : Type 0 where
 
 -- of a call that writes nothing
 abbrev pub moves : Lent → View → Done
-moves m v = record { sender = v; lent = m; frame = none; accepted = none; popped = none }
+moves m v = record { sender = v; lent = m; frame = None; accepted = None; popped = None }
 
 -- an acceptance, if the answer is one
 abbrev pub acceptance_in : Request → (message : List ℕ) → Outcome TransferToken → Option Acceptance
-acceptance_in r message (gives t) = some (record { token = t; request = r; message = message })
-acceptance_in r message (refuses n) = none
+acceptance_in r message (gives t) = Some (record { token = t; request = r; message = message })
+acceptance_in r message (refuses n) = None
 
 -- of `enqueue`, which writes to the lent memory
 abbrev pub enqueues : Request → (message : List ℕ) → Out TransferToken → Done
-enqueues r message o = record { sender = o.sender; lent = o.lent; frame = none; accepted = acceptance_in r message o.outcome; popped = none }
+enqueues r message o = record { sender = o.sender; lent = o.lent; frame = None; accepted = acceptance_in r message o.outcome; popped = None }
 
 -- of `submitted`, which does so too
 abbrev pub writes : {A : Type 0} → Out A → Done
-writes o = record { sender = o.sender; lent = o.lent; frame = none; accepted = none; popped = none }
+writes o = record { sender = o.sender; lent = o.lent; frame = None; accepted = None; popped = None }
 
 -- the frame of an answer
 abbrev pub frame_in : Outcome (Option PreparedFrame) → Option PreparedFrame
 frame_in (gives f) = f
-frame_in (refuses n) = none
+frame_in (refuses n) = None
 
 -- of `prepare` and `prepare_prioritized`
 abbrev pub prepares : Lent → After (Option PreparedFrame) View → Done
-prepares m a = record { sender = a.state; lent = m; frame = frame_in a.outcome; accepted = none; popped = none }
+prepares m a = record { sender = a.state; lent = m; frame = frame_in a.outcome; accepted = None; popped = None }
 
 -- the event of an answer
 abbrev pub event_in : Outcome (Option Ending) → Option Ending
 event_in (gives e) = e
-event_in (refuses n) = none
+event_in (refuses n) = None
 
 -- of `pop_event`
 abbrev pub pops : Lent → After (Option Ending) View → Done
-pops m a = record { sender = a.state; lent = m; frame = none; accepted = none; popped = event_in a.outcome }
+pops m a = record { sender = a.state; lent = m; frame = None; accepted = None; popped = event_in a.outcome }
 
 -- each call by its definition
 abbrev pub does : View → Lent → Call → Done
@@ -151,7 +151,7 @@ hold_of v echo = get_or v.echoes.echo_until_ms echo 0
 -- a call takes an echo from the sender v: afterwards there is a live transfer of this echo and deadline, under a generation that
 -- was not given out before
 abbrev pub Takes : View → Told → (echo deadline : ℕ) → Type 0
-Takes v c echo deadline = Some (λ x. (x.echo ≡ echo) × (x.parcel.deadline_ms ≡ deadline) × (v.next_token ≤ x.generation.0)) (after v c).transfers
+Takes v c echo deadline = Any (λ x. (x.echo ≡ echo) × (x.parcel.deadline_ms ≡ deadline) × (v.next_token ≤ x.generation.0)) (after v c).transfers
 
 -- an echo's hold changes only when it is taken
 abbrev pub OnlyTaken : Type 0
@@ -215,7 +215,7 @@ pub record Accepts (v : View) (m : Lent) (calls : List Call) (r : Request) (mess
   pub split : calls ≡ earlier ++ call ∷ later
   pub accepted :
       let at = run_alone v m earlier in
-      (does at.0 at.1 call).accepted ≡ some (record { token = t; request = r; message = message })
+      (does at.0 at.1 call).accepted ≡ Some (record { token = t; request = r; message = message })
 
 -- no token is given twice: what was accepted under it was accepted at one place of the list of calls, so it is one request with one
 -- message
@@ -236,7 +236,7 @@ pub record Traced (v : View) (m : Lent) (calls : List Call) (w : View) (f : Prep
   pub request : Request
   pub message : List ℕ
   pub transfer : Transfer
-  pub live : Some (λ x. x ≡ transfer) w.transfers
+  pub live : Any (λ x. x ≡ transfer) w.transfers
   pub accepted : Accepts v m calls request message transfer.parcel.owner
   pub frame : IsFrameOf f transfer request message
 
@@ -245,4 +245,4 @@ abbrev pub Faithful : Type 0
 Faithful = (v : View) (m : Lent) (calls : List Call) (c : Call) (f : PreparedFrame) → Fresh v →
     let at = run_alone v m calls in
     let d = does at.0 at.1 c in
-    d.frame ≡ some f → Traced v m calls d.sender f
+    d.frame ≡ Some f → Traced v m calls d.sender f

@@ -2,14 +2,12 @@
 -- first.
 -- Assumes nothing.
 use Rattle.std.specs.Prelude.{◌≡◌, true, false, List, [], ◌∷◌, ◌≢◌, ℕ, ◌+◌, ◌*◌, ◌^◌, ◌≤◌, ◌<◌, length, get_or}
-use Rattle.std.proofs.Math.Option.{Option, none, some}
+use Rattle.std.specs.Prelude.{Option, None, Some}
 use Rattle.std.specs.Int.Bits.{bit_and}
 use Rattle.token.specs.Token.{stop}
 use Rattle.rach.specs.Identity.{same, encodable}
 use Rattle.spach.specs.Header.{usage_of}
 use Rattle.arq.specs.Cut.{continues}
-use Rattle.transfer.specs.declared.Since.{Since}
-use Rattle.transfer.specs.declared.Since.TheVariants.{Never, Block}
 use Rattle.transfer.specs.declared.Transfer.{Transfer}
 use Rattle.transfer.specs.declared.PreparedFrame.{PreparedFrame}
 use Rattle.transfer.specs.Queue.{is_empty, has, front}
@@ -28,9 +26,9 @@ module _ {A : Type 0} where
     all_more : {x : A} {l : List A} → P x → All P l → All P (x ∷ l)
 
   -- some element is such
-  pub data Some (P : A → Type 0) : List A → Type 0 where
-    some-here : {x : A} {l : List A} → P x → Some P (x ∷ l)
-    some-later : {x : A} {l : List A} → Some P l → Some P (x ∷ l)
+  pub data Any (P : A → Type 0) : List A → Type 0 where
+    any-here : {x : A} {l : List A} → P x → Any P (x ∷ l)
+    any-later : {x : A} {l : List A} → Any P l → Any P (x ∷ l)
 
   -- every element and every later one are related so
   pub data Pairs (R : A → A → Type 0) : List A → Type 0 where
@@ -40,15 +38,15 @@ module _ {A : Type 0} where
 -- ---- optional blocks
 
 -- not after a block
-abbrev pub ByBlock : ℕ → Since → Type 0
-ByBlock block Never = Unit
-ByBlock block (Block b) = b ≤ block
+abbrev pub ByBlock : ℕ → Option ℕ → Type 0
+ByBlock block None = Unit
+ByBlock block (Some b) = b ≤ block
 
 -- not after another, which is there if this one is
-abbrev pub NotAfter : Since → Since → Type 0
-NotAfter Never t = Unit
-NotAfter (Block a) Never = ⊥
-NotAfter (Block a) (Block b) = a ≤ b
+abbrev pub NotAfter : Option ℕ → Option ℕ → Type 0
+NotAfter None t = Unit
+NotAfter (Some a) None = ⊥
+NotAfter (Some a) (Some b) = a ≤ b
 
 -- ---- one transfer
 
@@ -126,8 +124,8 @@ pub record Chosen (f : PreparedFrame) (x : Transfer) : Type 0 where
 
 -- a selected frame is a live transfer's, under a submission of the counter
 abbrev pub Selected : List Transfer → (next : ℕ) → Option PreparedFrame → Type 0
-Selected l next none = Unit
-Selected l next (some f) = Some (Chosen f) l × (f.token.submission.0 < next)
+Selected l next None = Unit
+Selected l next (Some f) = Any (Chosen f) l × (f.token.submission.0 < next)
 
 -- ---- the sender
 

@@ -2,7 +2,7 @@
 -- alone uses them. Assumes nothing.
 use Rattle.std.specs.Prelude.{Bool, cond, ℕ, zero, suc, ltb}
 use mathlib.Core.List.{List, [], ◌∷◌, foldl}
-use Rattle.std.proofs.Math.Option.{Option, none, some}
+use Rattle.std.specs.Prelude.{Option, None, Some}
 
 -- the n numbers from k on; `0..n` from 0
 abbrev pub range : (n k : ℕ) → List ℕ
@@ -12,8 +12,8 @@ range (suc n) k = k ∷ range n (suc k)
 module _ {A : Type 0} where
   -- `find`: the first that passes
   abbrev pub find : (test : A → Bool) → List A → Option A
-  find test [] = none
-  find test (x ∷ l) = cond (test x) (some x) (find test l)
+  find test [] = None
+  find test (x ∷ l) = cond (test x) (Some x) (find test l)
 
   -- `filter`: those that pass
   abbrev pub filter : (test : A → Bool) → List A → List A
@@ -22,8 +22,8 @@ module _ {A : Type 0} where
 
   -- one in front, if there is one
   abbrev pub in_front : Option A → List A → List A
-  in_front none l = l
-  in_front (some x) l = x ∷ l
+  in_front None l = l
+  in_front (Some x) l = x ∷ l
 
   -- `enumerate`: each with its place, from i on
   abbrev pub enumerate : (i : ℕ) → List A → List (ℕ × A)
@@ -41,5 +41,5 @@ greater a b = cond (ltb b.1 a.1) a b
 
 -- `max_by_key`, the key being the second part
 abbrev pub max_by_key : List (ℕ × ℕ) → Option (ℕ × ℕ)
-max_by_key [] = none
-max_by_key (p ∷ l) = some (foldl greater p l)
+max_by_key [] = None
+max_by_key (p ∷ l) = Some (foldl greater p l)

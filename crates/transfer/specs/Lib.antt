@@ -4,7 +4,8 @@
 -- numbers. Invariant says what every sender is that the calls make, History what holds over lists of calls: echoes are not taken
 -- while they are held, and every frame is one of its own order's; Gate joins that to what a receiver hears and delivers. Believe
 -- State's records, and in each file what its first lines name; the rest follows from them. Literal is the Rust step by step where the
--- definitions are shorter, with its iterators in Iterators. Sought serves the code alone.
+-- definitions are shorter, with its iterators in Iterators. Apart
+-- proves that the numbers tell the errors apart.
 pub mod Lists
 pub mod Constants
 pub mod Queue
@@ -20,8 +21,8 @@ pub mod Cancel
 pub mod Refresh
 pub mod Queries
 pub mod Numbers
+pub mod Apart
 pub mod Invariant
-pub mod Sought
 pub mod Iterators
 pub mod Literal
 pub mod History

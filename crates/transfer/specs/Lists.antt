@@ -1,5 +1,6 @@
 -- Lists as the Rust's deques: `position`, `any`, `remove` and `push_back`. Assumes nothing.
-use Rattle.std.specs.Prelude.{Bool, false, cond, ◌||◌, List, [], ◌∷◌, ◌++◌, ℕ, suc, take, drop}
+use Rattle.std.specs.List.{list_any}
+use Rattle.std.specs.Prelude.{Bool, cond, List, [], ◌∷◌, ◌++◌, ℕ, suc, take, drop}
 
 module _ {A : Type 0} where
   -- the place of the first element that passes, or the length if none does
@@ -7,10 +8,9 @@ module _ {A : Type 0} where
   position p [] = 0
   position p (x ∷ xs) = cond (p x) 0 (suc (position p xs))
 
-  -- some element passes
+  -- some element passes: the library's word, p x₁ || (p x₂ || ..)
   abbrev pub any : (A → Bool) → List A → Bool
-  any p [] = false
-  any p (x ∷ xs) = p x || any p xs
+  any p xs = list_any p xs
 
   -- the list without its element at i
   abbrev pub remove_at : ℕ → List A → List A

@@ -5,7 +5,7 @@
 -- does), frames are cut when they are prepared, messages and submissions lie in the lent memory, a frame token's number is compared, and 16 and
 -- 18 are added. Assumes nothing.
 use Rattle.std.specs.Prelude.{Bool, true, false, cond, not, ◌&&◌, ◌||◌, List, [], ◌∷◌, ◌++◌, map, ℕ, zero, suc, ◌+◌, ◌-◌, ◌%◌, eqb, leb, ltb, length, get_or, set}
-use Rattle.std.proofs.Math.Option.{Option, none, some}
+use Rattle.std.specs.Prelude.{Option, None, Some}
 use Rattle.token.specs.Token.{stop}
 use Rattle.spach.specs.Refusal.{Outcome, gives, refuses, refuse, After, onward}
 use Rattle.arq.specs.declared.PackedFrame.{PackedFrame}
@@ -18,8 +18,6 @@ use Rattle.transfer.specs.declared.FrameToken.{FrameToken}
 use Rattle.transfer.specs.declared.Parcel.{Parcel}
 use Rattle.transfer.specs.declared.PreparedFrame.{PreparedFrame}
 use Rattle.transfer.specs.declared.Request.{Request}
-use Rattle.transfer.specs.declared.Since.{Since}
-use Rattle.transfer.specs.declared.Since.TheVariants.{Never, Block}
 use Rattle.transfer.specs.declared.Transfer.{Transfer}
 use Rattle.transfer.specs.declared.TransferToken.{TransferToken}
 use Rattle.transfer.specs.Constants.{echo_values, refresh_blocks}
@@ -64,7 +62,7 @@ requeued_literal x =
       observed = x.sets.observed;
       received_status = false;
     }))
-    (record { last_progress = x.blocks.last_progress; last_frame = x.blocks.last_frame; waiting_since = Never })
+    (record { last_progress = x.blocks.last_progress; last_frame = x.blocks.last_frame; waiting_since = None })
 
 -- `settle`
 unfoldable pub settle_literal : (block : ℕ) → Transfer → Transfer
@@ -84,7 +82,7 @@ starts_literal p echo generation = record {
   generation = record { 0 = generation };
   sets = record { queue = collected p.frames; in_flight = 0; transmitted = 0; observed = 0; received_status = false };
   echo = echo;
-  blocks = record { last_progress = Never; last_frame = Never; waiting_since = Never };
+  blocks = record { last_progress = None; last_frame = None; waiting_since = None };
 }
 
 -- `queue.push_back(frames.len() - 1)`
@@ -102,7 +100,7 @@ observes_literal map block x =
       observed = set_where (x.parcel.frames - 1) (λ index. has map index && (has x.sets.transmitted (suc index) || has x.sets.in_flight (suc index))) x.sets.observed;
       received_status = true;
     }))
-    (record { last_progress = Block block; last_frame = x.blocks.last_frame; waiting_since = Never })
+    (record { last_progress = Some block; last_frame = x.blocks.last_frame; waiting_since = None })
 
 -- ---- advance
 
@@ -112,8 +110,8 @@ search_literal e now = find (λ index. leb (get_or e.echo_until_ms index 0) now)
 
 -- the echo that it found is held, and the next search starts behind it; none found is EchoExhausted (21)
 abbrev pub takes_literal : Echoes → (until : ℕ) → Option ℕ → Outcome (ℕ × Echoes)
-takes_literal e until none = refuses 21
-takes_literal e until (some index) = gives (index, record { echo_until_ms = set e.echo_until_ms index until; next_echo = (index + 1) % echo_values })
+takes_literal e until None = refuses 21
+takes_literal e until (Some index) = gives (index, record { echo_until_ms = set e.echo_until_ms index until; next_echo = (index + 1) % echo_values })
 
 -- `allocate_echo`: before the first block 21; a sum that does not fit 23; else the echo, and the holds that it leaves
 abbrev pub allocate_literal : View → (now deadline : ℕ) → Outcome (ℕ × Echoes)
@@ -213,17 +211,17 @@ selects_literal v x index (gives p) =
       token = record { generation = x.generation; submission = record { 0 = v.next_token }; frame = index };
       partial_echo = x.echo;
     } in
-    says (some f) (with_selected (token_taken v) (some f))
+    says (Some f) (with_selected (token_taken v) (Some f))
 
 -- `queue.front()` and `queue.len() == 1`: the front, polled if it is the only one
 abbrev pub front_literal : View → Transfer → (octets queue : List ℕ) → After (Option PreparedFrame) View
-front_literal v x octets [] = says none v
+front_literal v x octets [] = says None v
 front_literal v x octets (index ∷ more) = selects_literal v x index (packed_of x octets index (eqb (length (index ∷ more)) 1))
 
 -- `prepare` after its `advance`: the selected frame; else the front of the first queue that is not empty
 abbrev pub choose_literal : View → (octets : List ℕ) → (selected : Option PreparedFrame) → After (Option PreparedFrame) View
-choose_literal v octets (some f) = says (some f) v
-choose_literal v octets none = seek is_ready v.transfers (says none v) (λ place x. front_literal v x octets (frames_of x.sets.queue))
+choose_literal v octets (Some f) = says (Some f) v
+choose_literal v octets None = seek is_ready v.transfers (says None v) (λ place x. front_literal v x octets (frames_of x.sets.queue))
 
 -- `prepare`
 unfoldable pub prepare_literal : View → Lent → (block now : ℕ) → After (Option PreparedFrame) View
@@ -241,26 +239,26 @@ interrupt_literal v m echo block now =
 unfoldable pub prepare_prioritized_literal : View → Lent → (echo block now : ℕ) → After (Option PreparedFrame) View
 prepare_prioritized_literal v m echo block now =
     entering v m block now (λ w.
-    seek (of_echo echo) w.transfers (says none w) (λ place x.
+    seek (of_echo echo) w.transfers (says None w) (λ place x.
     let y = cond (idle x && is_set x.blocks.last_frame) (last_pushed x) x in
     let u = with_selected (with_transfers w (y ∷ remove_at place w.transfers)) (only_echo echo w.selected) in
-    cond (is_ready y) (advancing u block now (λ w. choose_literal w m.octets w.selected)) (says none u)))
+    cond (is_ready y) (advancing u block now (λ w. choose_literal w m.octets w.selected)) (says None u)))
 
 -- `submitted_message`: each frame is transmitted or in flight
 unfoldable pub submitted_message_literal : View → FrameToken → Option ℕ
 submitted_message_literal v t =
-    seek (of_generation t.generation) v.transfers none (λ place x.
-    cond (each x.parcel.frames (λ index. has x.sets.transmitted index || has x.sets.in_flight index)) (some x.parcel.completion) none)
+    seek (of_generation t.generation) v.transfers None (λ place x.
+    cond (each x.parcel.frames (λ index. has x.sets.transmitted index || has x.sets.in_flight index)) (Some x.parcel.completion) None)
 
 -- `transmitted`: `completed` is called if each frame is transmitted; the transfer is settled, then `advance`
 unfoldable pub transmitted_literal : View → Lent → FrameToken → (block now : ℕ) → After (Option Bool) View
 transmitted_literal v m t block now =
     onward v (admitted v m block now) (λ w.
-    seek (of_generation t.generation) w.transfers (says none w) (λ place x.
+    seek (of_generation t.generation) w.transfers (says None w) (λ place x.
     let y = confirm_frame t.frame x in
     cond (is_outstanding t m.words x)
-    (advancing (put_at w place (settle_literal block y)) block now (says (some (each y.parcel.frames (has y.sets.transmitted)))))
-    (says none w)))
+    (advancing (put_at w place (settle_literal block y)) block now (says (Some (each y.parcel.frames (has y.sets.transmitted)))))
+    (says None w)))
 
 -- `status`: the transfer is settled before the second `advance`
 unfoldable pub status_literal : View → Lent → ArqStatus → (block now : ℕ) → After Bool View
@@ -276,9 +274,9 @@ abbrev pub refresh_literal : (block : ℕ) → Transfer → Transfer
 refresh_literal block x = cond (idle x && passed refresh_blocks block x.blocks.last_frame) (last_pushed x) x
 
 -- `last_frame.map`: the age of a transfer at a place
-abbrev pub aged_literal : (block place : ℕ) → Since → Option (ℕ × ℕ)
-aged_literal block place Never = none
-aged_literal block place (Block last) = some (place, block - last)
+abbrev pub aged_literal : (block place : ℕ) → Option ℕ → Option (ℕ × ℕ)
+aged_literal block place None = None
+aged_literal block place (Some last) = Some (place, block - last)
 
 -- `oldest`: of those that have a frame queued and are at least 16 blocks old, the greatest age, of equal ones the last
 abbrev pub oldest_literal : (block : ℕ) → List Transfer → Option (ℕ × ℕ)
@@ -291,13 +289,13 @@ oldest_literal block l =
 
 -- it is removed, and pushed to the front
 abbrev pub fronted_literal : View → (oldest : Option (ℕ × ℕ)) → View
-fronted_literal v none = v
-fronted_literal v (some p) = with_transfers v (get_or v.transfers p.0 blank_transfer ∷ remove_at p.0 v.transfers)
+fronted_literal v None = v
+fronted_literal v (Some p) = with_transfers v (get_or v.transfers p.0 blank_transfer ∷ remove_at p.0 v.transfers)
 
 -- `if self.selected.is_none()`
 abbrev pub served_literal : View → (selected : Option PreparedFrame) → View
-served_literal v none = fronted_literal v (oldest_literal v.clock.last_block v.transfers)
-served_literal v (some f) = v
+served_literal v None = fronted_literal v (oldest_literal v.clock.last_block v.transfers)
+served_literal v (Some f) = v
 
 -- `refresh_waiting`
 unfoldable pub refresh_waiting_literal : View → Lent → (block now : ℕ) → After Unit View

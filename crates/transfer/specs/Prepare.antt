@@ -2,7 +2,7 @@
 -- write nothing to the lent store. Believe `packed_of`, what a frame is, `choose_from`, which one it is, `asked_for`, whose restart
 -- `interrupt` asks for, and `prioritized`. Assumes nothing.
 use Rattle.std.specs.Prelude.{Bool, true, false, cond, not, ◌&&◌, List, [], ◌∷◌, ℕ, eqb}
-use Rattle.std.proofs.Math.Option.{Option, none, some}
+use Rattle.std.specs.Prelude.{Option, None, Some}
 use Rattle.spach.specs.Refusal.{Outcome, gives, refuses, and_then, After, onward}
 use Rattle.arq.specs.declared.PackedFrame.{PackedFrame}
 use Rattle.arq.specs.Encode.{encode_of}
@@ -40,13 +40,13 @@ prepared_of x p submission = record {
 
 -- it is selected, with the next token number as its submission. (No refusal occurs: `enqueue` had the message cut.)
 abbrev pub selects : View → Transfer → Outcome PackedFrame → After (Option PreparedFrame) View
-selects v x (gives p) = let f = prepared_of x p v.next_token in says (some f) (with_selected (token_taken v) (some f))
+selects v x (gives p) = let f = prepared_of x p v.next_token in says (Some f) (with_selected (token_taken v) (Some f))
 selects v x (refuses n) = record { outcome = refuses n; state = v }
 
 -- the selected frame as it is; else the front of the first transfer that has one queued
 abbrev pub choose_from : View → (octets : List ℕ) → (selected : Option PreparedFrame) → After (Option PreparedFrame) View
-choose_from v octets (some f) = says (some f) v
-choose_from v octets none = seek is_ready v.transfers (says none v) (λ place x. selects v x (front_of x octets))
+choose_from v octets (Some f) = says (Some f) v
+choose_from v octets None = seek is_ready v.transfers (says None v) (λ place x. selects v x (front_of x octets))
 
 -- what `prepare` does after its `advance`
 unfoldable pub choose : View → (octets : List ℕ) → After (Option PreparedFrame) View
@@ -83,19 +83,19 @@ repeated x = cond (idle x && is_set x.blocks.last_frame) (last_queued x) x
 
 -- a selected frame of another echo is dropped
 abbrev pub only_echo : (echo : ℕ) → Option PreparedFrame → Option PreparedFrame
-only_echo echo none = none
-only_echo echo (some f) = cond (eqb f.partial_echo echo) (some f) none
+only_echo echo None = None
+only_echo echo (Some f) = cond (eqb f.partial_echo echo) (Some f) None
 
 -- the transfer goes to the front; if it has nothing queued then, there is no frame. (The Rust advances once more before it
 -- prepares, at the same clock, which changes nothing: `prepare-prioritized-literal`.)
 abbrev pub prioritized : View → (octets : List ℕ) → (echo place : ℕ) → Transfer → After (Option PreparedFrame) View
 prioritized v octets echo place x =
     let w = with_selected (with_transfers v (repeated x ∷ remove_at place v.transfers)) (only_echo echo v.selected) in
-    cond (is_ready (repeated x)) (choose w octets) (says none w)
+    cond (is_ready (repeated x)) (choose w octets) (says None w)
 
 -- an echo that no transfer has: no frame, and the selection stays
 unfoldable pub prioritize_at : View → (octets : List ℕ) → (echo : ℕ) → After (Option PreparedFrame) View
-prioritize_at v octets echo = seek (of_echo echo) v.transfers (says none v) (prioritized v octets echo)
+prioritize_at v octets echo = seek (of_echo echo) v.transfers (says None v) (prioritized v octets echo)
 
 -- 16, 18, 22
 unfoldable pub prepare_prioritized_of : View → Lent → (echo block now : ℕ) → After (Option PreparedFrame) View

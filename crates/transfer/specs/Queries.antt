@@ -1,7 +1,7 @@
 -- 01, module 6: `can_enqueue`, `identity_for_echo`, `radio_active`, `ready`, `contains`, `pop_event` and `pending`. They never
 -- refuse. Believe each: they are the Rust's lines. Assumes nothing.
 use Rattle.std.specs.Prelude.{Bool, ◌&&◌, List, [], ◌∷◌, ℕ, leb, ltb, length}
-use Rattle.std.proofs.Math.Option.{Option, none, some}
+use Rattle.std.specs.Prelude.{Option, None, Some}
 use Rattle.rach.specs.declared.MobileIdentity.{MobileIdentity}
 use Rattle.spach.specs.Refusal.{After}
 use Rattle.transfer.specs.declared.Event.{Event}
@@ -23,7 +23,7 @@ can_enqueue_of v block now =
 
 -- of the first transfer of this echo
 unfoldable pub identity_for_echo_of : View → (echo : ℕ) → Option MobileIdentity
-identity_for_echo_of v echo = seek (of_echo echo) v.transfers none (λ place x. some x.parcel.identity)
+identity_for_echo_of v echo = seek (of_echo echo) v.transfers None (λ place x. Some x.parcel.identity)
 
 -- some transfer had progress under its present echo
 abbrev pub radio_active_of : View → Bool
@@ -39,8 +39,8 @@ contains_of v i = any (addressed i) v.transfers
 
 -- the event that waits longest
 abbrev pub pop_from : View → List Event → After (Option Ending) View
-pop_from v [] = says none v
-pop_from v (e ∷ l) = says (some (ending_of e)) (with_events v l)
+pop_from v [] = says None v
+pop_from v (e ∷ l) = says (Some (ending_of e)) (with_events v l)
 
 -- it is taken
 unfoldable pub pop_event_of : View → After (Option Ending) View

@@ -1,10 +1,8 @@
 -- 01, module 6: `refresh_waiting`, refresh at 16 blocks: 16, 18, 22. After `advance` waiting transfers are queued again, and then
 -- the oldest that is ready goes to the front. Believe `refreshed` and `oldest`. Assumes nothing.
 use Rattle.std.specs.Prelude.{cond, ◌&&◌, List, [], ◌∷◌, map, ℕ, suc, ◌-◌, leb, ltb, length, get_or}
-use Rattle.std.proofs.Math.Option.{Option, none, some}
+use Rattle.std.specs.Prelude.{Option, None, Some}
 use Rattle.spach.specs.Refusal.{After, onward}
-use Rattle.transfer.specs.declared.Since.{Since}
-use Rattle.transfer.specs.declared.Since.TheVariants.{Never, Block}
 use Rattle.transfer.specs.declared.Transfer.{Transfer}
 use Rattle.transfer.specs.declared.PreparedFrame.{PreparedFrame}
 use Rattle.transfer.specs.Constants.{refresh_blocks}
@@ -27,9 +25,9 @@ queue_waiting v = with_transfers v (map (refreshed v.clock.last_block) v.transfe
 -- ---- second half
 
 -- blocks since; 0 where there was none
-abbrev pub blocks_since : (block : ℕ) → Since → ℕ
-blocks_since block Never = 0
-blocks_since block (Block b) = block - b
+abbrev pub blocks_since : (block : ℕ) → Option ℕ → ℕ
+blocks_since block None = 0
+blocks_since block (Some b) = block - b
 
 -- a ready transfer's age: blocks since its last frame was submitted; 0 if it is not ready
 abbrev pub age_of : (block : ℕ) → Transfer → ℕ
@@ -50,8 +48,8 @@ to_front place l = cond (ltb place (length l)) (get_or l place blank_transfer �
 
 -- while a frame is selected the order stays
 abbrev pub oldest_first : View → (selected : Option PreparedFrame) → View
-oldest_first v none = with_transfers v (to_front (oldest v.clock.last_block v.transfers) v.transfers)
-oldest_first v (some f) = v
+oldest_first v None = with_transfers v (to_front (oldest v.clock.last_block v.transfers) v.transfers)
+oldest_first v (Some f) = v
 
 -- if no frame is selected, the oldest ready transfer goes to the front
 unfoldable pub serve_oldest : View → View

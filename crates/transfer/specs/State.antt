@@ -2,16 +2,17 @@
 -- said of them.
 -- Assumes nothing.
 use Rattle.std.specs.Prelude.{Bool, cond, false, ◌||◌, List, [], ℕ, eqb, ltb, length, get_or, set, replicate}
-use Rattle.std.proofs.Math.Option.{Option, none, some}
+use Rattle.std.specs.Prelude.{Option, None, Some}
 use Rattle.token.specs.Token.{fewer_than, number_after}
 use Rattle.rach.specs.declared.MobileIdentity.TheVariants.{Tmsi20}
 use Rattle.spach.specs.declared.Channel.TheVariants.{Arch}
 use Rattle.spach.specs.Refusal.{Outcome, gives, refuses, refuse, After}
+pub use Rattle.transfer.specs.declared.Limits.{Limits}
+pub use Rattle.transfer.specs.declared.Clock.{Clock}
 use Rattle.transfer.specs.declared.Error.{Error}
 use Rattle.transfer.specs.declared.Event.{Event}
 use Rattle.transfer.specs.declared.Event.TheVariants.{Complete, Expired, Cancelled, Failed}
 use Rattle.transfer.specs.declared.Generation.{Generation}
-use Rattle.transfer.specs.declared.Since.TheVariants.{Never}
 use Rattle.transfer.specs.declared.Transfer.{Transfer}
 use Rattle.transfer.specs.declared.PreparedFrame.{PreparedFrame}
 use Rattle.transfer.specs.Constants.{echo_values, store_octets, store_words, call_tokens}
@@ -19,27 +20,16 @@ use Rattle.transfer.specs.Lists.{position, remove_at, push_back}
 
 -- ---- the state
 
--- what the constructor was given
-pub record Limits : Type 0 where
-  pub capacity : ℕ
-  -- the first usable block
-  pub startup_until_block : ℕ
-  -- guard milliseconds
-  pub echo_guard_ms : ℕ
-
 -- until when each of the 128 echoes is held, and where the next search starts
 pub record Echoes : Type 0 where
   pub echo_until_ms : List ℕ
   pub next_echo : ℕ
 
--- the block and the milliseconds of the last clock that was accepted
-pub record Clock : Type 0 where
-  pub last_block : ℕ
-  pub last_ms : ℕ
-
 -- a sender
 pub record View : Type 0 where
+  -- what the constructor was given: the capacity, the first usable block, guard milliseconds (a record of src/lib.rt)
   pub limits : Limits
+  -- the block and the milliseconds of the last clock that was accepted (a record of src/lib.rt)
   pub clock : Clock
   -- live transfers, overdue ones too, in the order in which they are served
   pub transfers : List Transfer
@@ -96,17 +86,13 @@ fresh capacity guard first_block first = record {
   transfers = [];
   events = [];
   echoes = record { echo_until_ms = replicate echo_values 0; next_echo = 0 };
-  selected = none;
+  selected = None;
   next_token = first;
 }
 
 -- `try_new` and `after_restart`: capacity not 1 to 128 is refused 19
 unfoldable pub new_of : (capacity guard first_block first : ℕ) → Outcome View
 new_of capacity guard first_block first = refuse (eqb capacity 0 || ltb echo_values capacity) 19 (gives (fresh capacity guard first_block first))
-
--- the blank sender, which stands beside that refusal
-abbrev pub blank_view : View
-blank_view = fresh 0 0 0 0
 
 -- ---- what a call with a clock does first
 
@@ -152,7 +138,7 @@ blank_transfer = record {
   generation = record { 0 = 0 };
   sets = record { queue = 0; in_flight = 0; transmitted = 0; observed = 0; received_status = false };
   echo = 0;
-  blocks = record { last_progress = Never; last_frame = Never; waiting_since = Never };
+  blocks = record { last_progress = None; last_frame = None; waiting_since = None };
 }
 
 -- the first transfer that passes the test, and its place; or what is said if there is none
@@ -173,8 +159,8 @@ of_generation g x = eqb x.generation.0 g.0
 
 -- the selection without a frame of this generation
 abbrev pub unselect : Generation → Option PreparedFrame → Option PreparedFrame
-unselect g none = none
-unselect g (some f) = cond (eqb f.token.generation.0 g.0) none (some f)
+unselect g None = None
+unselect g (Some f) = cond (eqb f.token.generation.0 g.0) None (Some f)
 
 -- `clear_selected`: a frame of this generation is not selected any more
 abbrev pub clear_selected : View → Generation → View

@@ -1,10 +1,10 @@
 -- 01, module 6: `status`: 16, 18, 22. The map is 26 bits of a 32-bit number; the six above are not read.
 -- Believe `observes` and when `status_at` says no. Assumes nothing.
+use Rattle.std.specs.Prelude.{None, Some}
 use Rattle.std.specs.Prelude.{Bool, true, false, cond, ℕ, ◌*◌, ◌%◌, ◌^◌}
 use Rattle.std.specs.Int.Bits.{bit_and, bit_or}
 use Rattle.spach.specs.Refusal.{After, onward}
 use Rattle.receiver.specs.declared.ArqStatus.{ArqStatus}
-use Rattle.transfer.specs.declared.Since.TheVariants.{Never, Block}
 use Rattle.transfer.specs.declared.Transfer.{Transfer}
 use Rattle.transfer.specs.Queue.{has}
 use Rattle.transfer.specs.State.{View, Lent, admitted, says, seek, put_at, of_echo}
@@ -26,7 +26,7 @@ observes map block x =
       observed = bit_or x.sets.observed (bit_and (shown map) (went_out x));
       received_status = true;
     }))
-    (record { last_progress = Block block; last_frame = x.blocks.last_frame; waiting_since = Never })
+    (record { last_progress = Some block; last_frame = x.blocks.last_frame; waiting_since = None })
 
 -- after `advance`: false for an echo that no transfer has, and for one whose Begin did not go out; else `advance` once
 -- more. (The Rust settles the transfer before that, which changes nothing: `status-literal`.)

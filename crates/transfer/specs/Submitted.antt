@@ -2,11 +2,10 @@
 -- `transmitted` (16, 18, 22).
 -- Believe `matches`, `in_flight_lem` and `handed_in`: what is handed in; and `is_outstanding`: what is found again. Assumes nothing.
 use Rattle.std.specs.Prelude.{Bool, false, cond, ◌&&◌, List, ℕ, ◌+◌, ◌*◌, eqb, ltb, get_or, set}
-use Rattle.std.proofs.Math.Option.{Option, none, some}
+use Rattle.std.specs.Prelude.{Option, None, Some}
 use Rattle.spach.specs.Refusal.{gives, refuse, After, onward}
 use Rattle.receiver.specs.Map.{with_bit}
 use Rattle.transfer.specs.declared.FrameToken.{FrameToken}
-use Rattle.transfer.specs.declared.Since.TheVariants.{Block}
 use Rattle.transfer.specs.declared.Transfer.{Transfer}
 use Rattle.transfer.specs.declared.PreparedFrame.{PreparedFrame}
 use Rattle.transfer.specs.Constants.{message_words}
@@ -25,8 +24,8 @@ matches a b = eqb a.generation.0 b.generation.0 && (eqb a.submission.0 b.submiss
 
 -- the token of the selected frame
 abbrev pub is_selected : FrameToken → Option PreparedFrame → Bool
-is_selected t none = false
-is_selected t (some f) = matches f.token t
+is_selected t None = false
+is_selected t (Some f) = matches f.token t
 
 -- the front of the queue goes in flight, at this block
 abbrev pub in_flight_lem : (frame block : ℕ) → Transfer → Transfer
@@ -39,7 +38,7 @@ in_flight_lem frame block x =
       observed = x.sets.observed;
       received_status = x.sets.received_status;
     }))
-    (record { last_progress = Block block; last_frame = Block block; waiting_since = x.blocks.waiting_since })
+    (record { last_progress = Some block; last_frame = Some block; waiting_since = x.blocks.waiting_since })
 
 -- which of the lent words is a frame's
 abbrev pub word_of : Transfer → (frame : ℕ) → ℕ
@@ -49,7 +48,7 @@ word_of x frame = message_words * x.parcel.n + frame
 abbrev pub handed_in : View → Lent → FrameToken → (place : ℕ) → Transfer → Out Unit
 handed_in v m t place x = record {
   outcome = gives tt;
-  sender = with_selected (with_transfers v (push_back (remove_at place v.transfers) (in_flight_lem t.frame v.clock.last_block x))) none;
+  sender = with_selected (with_transfers v (push_back (remove_at place v.transfers) (in_flight_lem t.frame v.clock.last_block x))) None;
   lent = record { octets = m.octets; words = set m.words (word_of x t.frame) t.submission.0 };
 }
 
@@ -71,8 +70,8 @@ submitted_of v m t block now = goes_on v m (refuse (short m) 16 (ticked v block 
 -- the completion of the transfer of the token's generation, once every frame is transmitted or in flight
 unfoldable pub submitted_message_of : View → FrameToken → Option ℕ
 submitted_message_of v t =
-    seek (of_generation t.generation) v.transfers none (λ place x.
-    cond (full x.parcel.frames (went_out x)) (some x.parcel.completion) none)
+    seek (of_generation t.generation) v.transfers None (λ place x.
+    cond (full x.parcel.frames (went_out x)) (Some x.parcel.completion) None)
 
 -- ---- transmitted
 
@@ -96,13 +95,13 @@ confirm_frame frame x = with_sets x (record {
 -- found, and whether the Rust calls `completed`: all frames are transmitted now. Then `advance`. (The Rust settles the transfer
 -- before that, which changes nothing: `transmitted-literal`.)
 abbrev pub confirms : View → FrameToken → (place : ℕ) → Transfer → After (Option Bool) View
-confirms v t place x = let y = confirm_frame t.frame x in says (some (all_transmitted y)) (walked (put_at v place y))
+confirms v t place x = let y = confirm_frame t.frame x in says (Some (all_transmitted y)) (walked (put_at v place y))
 
 -- a frame that is not found: nothing but the clock has moved
 unfoldable pub transmitted_at : View → (words : List ℕ) → FrameToken → After (Option Bool) View
 transmitted_at v words t =
-    seek (of_generation t.generation) v.transfers (says none v) (λ place x.
-    cond (is_outstanding t words x) (confirms v t place x) (says none v))
+    seek (of_generation t.generation) v.transfers (says None v) (λ place x.
+    cond (is_outstanding t words x) (confirms v t place x) (says None v))
 
 -- 16, 18, 22
 unfoldable pub transmitted_of : View → Lent → FrameToken → (block now : ℕ) → After (Option Bool) View

@@ -1,5 +1,6 @@
 -- 01, module 6: a transfer, in the order of the Rust's `Transfer`: its frames, `done`, `settle`; and how it begins, at first
 -- and after a restart. Believe `done_of` and `settle_of`, and what `begun` queues. Assumes nothing.
+use Rattle.std.specs.Prelude.{Option, None, Some}
 use Rattle.std.specs.Prelude.{Bool, true, false, cond, not, ◌&&◌, ◌||◌, List, ℕ, ◌-◌, ◌*◌, leb, take, drop}
 use Rattle.std.specs.Int.Bits.{bit_or}
 use Rattle.spach.specs.declared.Channel.{Channel}
@@ -8,8 +9,6 @@ use Rattle.arq.specs.declared.ArqHeader.{ArqHeader}
 use Rattle.arq.specs.Frame.{blank_header}
 use Rattle.transfer.specs.declared.Parcel.{Parcel}
 use Rattle.transfer.specs.declared.Sets.{Sets}
-use Rattle.transfer.specs.declared.Since.{Since}
-use Rattle.transfer.specs.declared.Since.TheVariants.{Never, Block}
 use Rattle.transfer.specs.declared.Blocks.{Blocks}
 use Rattle.transfer.specs.declared.Transfer.{Transfer}
 use Rattle.transfer.specs.Constants.{restart_blocks, message_octets_lem}
@@ -18,19 +17,19 @@ use Rattle.transfer.specs.Queue.{is_empty, first_frames, continues_of, frame_alo
 -- ---- optional blocks
 
 -- at least so many blocks have passed since
-abbrev pub passed : (limit block : ℕ) → Since → Bool
-passed limit block Never = false
-passed limit block (Block b) = leb limit (block - b)
+abbrev pub passed : (limit block : ℕ) → Option ℕ → Bool
+passed limit block None = false
+passed limit block (Some b) = leb limit (block - b)
 
 -- there is a block
-abbrev pub is_set : Since → Bool
-is_set Never = false
-is_set (Block b) = true
+abbrev pub is_set : Option ℕ → Bool
+is_set None = false
+is_set (Some b) = true
 
 -- `get_or_insert`
-abbrev pub or_from : (block : ℕ) → Since → Since
-or_from block Never = Block block
-or_from block (Block b) = Block b
+abbrev pub or_from : (block : ℕ) → Option ℕ → Option ℕ
+or_from block None = Some block
+or_from block (Some b) = Some b
 
 -- ---- frames
 
@@ -51,7 +50,7 @@ abbrev pub with_blocks : Transfer → Blocks → Transfer
 with_blocks x b = record { parcel = x.parcel; generation = x.generation; sets = x.sets; echo = x.echo; blocks = b }
 
 -- waiting since another block, or not at all
-abbrev pub waiting_from : Transfer → Since → Transfer
+abbrev pub waiting_from : Transfer → Option ℕ → Transfer
 waiting_from x s = with_blocks x (record { last_progress = x.blocks.last_progress; last_frame = x.blocks.last_frame; waiting_since = s })
 
 -- with another queue
@@ -97,7 +96,7 @@ requeued x =
       observed = x.sets.observed;
       received_status = false;
     }))
-    Never
+    None
 
 -- it waits from this block on, unless it does so already
 abbrev pub waits : (block : ℕ) → Transfer → Transfer
@@ -122,5 +121,5 @@ begun p echo generation = record {
   generation = record { 0 = generation };
   sets = record { queue = first_frames p.frames; in_flight = 0; transmitted = 0; observed = 0; received_status = false };
   echo = echo;
-  blocks = record { last_progress = Never; last_frame = Never; waiting_since = Never };
+  blocks = record { last_progress = None; last_frame = None; waiting_since = None };
 }

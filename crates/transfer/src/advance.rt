@@ -1,29 +1,26 @@
 // What becomes of a transfer in `advance`.
 // Ported from runtime/spach_arq.rs (chrismoos/136-bts 7c60b63bf4, Apache-2.0) and changed: see NOTICE.
-ghost use Rattle.std.specs.Prelude.{◌≡◌, ◌≤◌};
+ghost use Rattle.std.specs.Prelude.{◌≡◌};
 ghost use Rattle.transfer.specs.Advance.{fate_of};
 
 use super::settling::{done_of, restart_due, settle};
-use super::{Event, Fate, Transfer};
+use super::{Clock, Event, Fate, Transfer};
 
 // Expired even if done; Complete; else it settles, and restarts if that was asked for or is due.
-pub fn fate_of(last_block: u64, last_ms: u64, asked: bool, x: Transfer) -> Fate
-    requires { (1 ≤ x.parcel.frames) × (x.parcel.frames ≤ 27) }
-    ensures { result ≡ fate_of (record { last_block = last_block; last_ms = last_ms }) asked x }
+#[tactic(auto, unfolding(crate::specs::Advance::fate_of))]
+pub fn fate_of(clock: Clock, asked: bool, x: &Transfer) -> Fate
+    ensures { result ≡ fate_of clock asked x.now }
 {
-    let p = x.parcel;
-    if p.deadline_ms <= last_ms {
-        return Fate::Ends(Event::Expired(p.completion));
+    if x.parcel.deadline_ms <= clock.last_ms {
+        return Fate::Ends(Event::Expired(x.parcel.completion));
     }
     if done_of(x) {
-        return Fate::Ends(Event::Complete(p.completion));
+        return Fate::Ends(Event::Complete(x.parcel.completion));
     }
-    let y = settle(last_block, x);
-    if asked {
-        return Fate::Restarts;
+    let y = settle(clock.last_block, *x);
+    if asked || restart_due(clock.last_block, &y) {
+        Fate::Restarts
+    } else {
+        Fate::Stays(y)
     }
-    if restart_due(last_block, y) {
-        return Fate::Restarts;
-    }
-    Fate::Stays(y)
 }

@@ -10,8 +10,8 @@ ghost use Rattle.transfer.specs.Refresh as refresh;
 
 use super::constants::{MESSAGE_WORDS, REFRESH_BLOCKS};
 use super::queue::{frame_alone, has, without};
-use super::settling::{idle, is_set, passed};
-use super::{Blocks, FrameToken, Sets, Since, Transfer};
+use super::settling::{idle, passed};
+use super::{Blocks, FrameToken, Sets, Transfer};
 
 // The frames that went out: transmitted, or in flight.
 pub fn went_out(sets: Sets) -> u32
@@ -22,89 +22,53 @@ pub fn went_out(sets: Sets) -> u32
 
 // The last frame queued again.
 pub fn last_queued(x: Transfer) -> Transfer
-    requires { (1 ≤ x.parcel.frames) × (x.parcel.frames ≤ 27) }
     ensures { result ≡ model.last_queued x }
 {
-    let p = x.parcel;
-    let s = x.sets;
-    let generation = x.generation;
-    let blocks = x.blocks;
-    let queue = frame_alone((p.frames - 1) as usize);
+    let queue = frame_alone(usize::from(x.parcel.frames.get() - 1));
     Transfer {
-        parcel: p,
-        generation: generation,
-        sets: Sets {
-            queue: queue,
-            in_flight: s.in_flight,
-            transmitted: s.transmitted,
-            observed: s.observed,
-            received_status: s.received_status,
-        },
-        echo: x.echo,
-        blocks: blocks,
+        sets: Sets { queue, ..x.sets },
+        ..x
     }
 }
 
 // If nothing is queued or in flight and a frame was submitted, the last is queued again.
 pub fn repeated(x: Transfer) -> Transfer
-    requires { (1 ≤ x.parcel.frames) × (x.parcel.frames ≤ 27) }
     ensures { result ≡ prepare.repeated x }
 {
-    let s = x.sets;
-    let b = x.blocks;
-    let frame = b.last_frame;
-    if !idle(s) {
-        return x;
+    if idle(x.sets) && x.blocks.last_frame.is_some() {
+        last_queued(x)
+    } else {
+        x
     }
-    if !is_set(frame) {
-        return x;
-    }
-    last_queued(x)
 }
 
 // If nothing is queued or in flight 16 blocks after the last frame was submitted, the last is queued again.
 pub fn refreshed(block: u64, x: Transfer) -> Transfer
-    requires { (1 ≤ x.parcel.frames) × (x.parcel.frames ≤ 27) }
     ensures { result ≡ refresh.refreshed block x }
 {
-    let s = x.sets;
-    let b = x.blocks;
-    let frame = b.last_frame;
-    if !idle(s) {
-        return x;
+    if idle(x.sets) && passed(REFRESH_BLOCKS, block, x.blocks.last_frame) {
+        last_queued(x)
+    } else {
+        x
     }
-    if !passed(REFRESH_BLOCKS, block, frame) {
-        return x;
-    }
-    last_queued(x)
 }
 
 // Blocks since the last frame was submitted, of a transfer that has one queued; else 0.
-pub fn age_of(block: u64, x: Transfer) -> u64
-    ensures { result ≡ refresh.age_of block x }
+pub fn age_of(block: u64, x: &Transfer) -> u64
+    ensures { result ≡ refresh.age_of block x.now }
 {
-    let s = x.sets;
-    let b = x.blocks;
-    let frame = b.last_frame;
-    if s.queue == 0 {
-        return 0;
+    if x.sets.queue == 0 {
+        0
+    } else {
+        blocks_since(block, x.blocks.last_frame)
     }
-    blocks_since(block, frame)
 }
 
 // Blocks since; 0 where there was none.
-pub fn blocks_since(block: u64, since: Since) -> u64
+pub fn blocks_since(block: u64, since: Option<u64>) -> u64
     ensures { result ≡ refresh.blocks_since block since }
 {
-    match since {
-        Since::Never => 0,
-        Since::Block(b) => {
-            if block < b {
-                return 0;
-            }
-            block - b
-        }
-    }
+    since.map_or(0, |b| block.saturating_sub(b))
 }
 
 // The front of the queue goes in flight.
@@ -112,47 +76,30 @@ pub fn in_flight(frame: usize, block: u64, x: Transfer) -> Transfer
     requires { frame < 32 }
     ensures { result ≡ submitted.in_flight_lem frame block x }
 {
-    let p = x.parcel;
-    let s = x.sets;
-    let b = x.blocks;
-    let generation = x.generation;
-    let waiting = b.waiting_since;
     let bit = frame_alone(frame);
-    let queue = without(s.queue, bit);
     Transfer {
-        parcel: p,
-        generation: generation,
         sets: Sets {
-            queue: queue,
-            in_flight: s.in_flight | bit,
-            transmitted: s.transmitted,
-            observed: s.observed,
-            received_status: s.received_status,
+            queue: without(x.sets.queue, bit),
+            in_flight: x.sets.in_flight | bit,
+            ..x.sets
         },
-        echo: x.echo,
         blocks: Blocks {
-            last_progress: Since::Block(block),
-            last_frame: Since::Block(block),
-            waiting_since: waiting,
+            last_progress: Some(block),
+            last_frame: Some(block),
+            ..x.blocks
         },
+        ..x
     }
 }
 
 // The token's frame is in flight, under its submission.
-pub fn is_outstanding(token: FrameToken, words: &[u64], x: Transfer) -> bool
-    requires { (x.parcel.frames ≤ 27) × (27 * x.parcel.n + 27 ≤ length words.now) }
-    ensures { result ≡ submitted.is_outstanding token words.now x }
+pub fn is_outstanding(token: FrameToken, words: &[u64], x: &Transfer) -> bool
+    requires { 27 * x.now.parcel.n + 27 ≤ length words.now }
+    ensures { result ≡ submitted.is_outstanding token words.now x.now }
 {
-    let p = x.parcel;
-    let s = x.sets;
-    let frame = token.frame;
-    if (p.frames as usize) <= frame {
-        return false;
-    }
-    if !has(s.in_flight, frame) {
-        return false;
-    }
-    words[MESSAGE_WORDS * (p.n as usize) + frame] == token.submission.0
+    token.frame < usize::from(x.parcel.frames.get())
+        && has(x.sets.in_flight, token.frame)
+        && words[MESSAGE_WORDS * usize::from(x.parcel.n) + token.frame] == token.submission.0
 }
 
 // It is transmitted, and in flight no more.
@@ -160,24 +107,14 @@ pub fn confirm_frame(frame: usize, x: Transfer) -> Transfer
     requires { frame < 32 }
     ensures { result ≡ submitted.confirm_frame frame x }
 {
-    let p = x.parcel;
-    let s = x.sets;
-    let blocks = x.blocks;
-    let generation = x.generation;
     let bit = frame_alone(frame);
-    let in_flight = without(s.in_flight, bit);
     Transfer {
-        parcel: p,
-        generation: generation,
         sets: Sets {
-            queue: s.queue,
-            in_flight: in_flight,
-            transmitted: s.transmitted | bit,
-            observed: s.observed,
-            received_status: s.received_status,
+            in_flight: without(x.sets.in_flight, bit),
+            transmitted: x.sets.transmitted | bit,
+            ..x.sets
         },
-        echo: x.echo,
-        blocks: blocks,
+        ..x
     }
 }
 
@@ -192,27 +129,18 @@ pub fn shown(map: u32) -> u32
 pub fn observe(map: u32, block: u64, x: Transfer) -> Transfer
     ensures { result ≡ status.observes map block x }
 {
-    let p = x.parcel;
-    let s = x.sets;
-    let b = x.blocks;
-    let generation = x.generation;
-    let frame = b.last_frame;
-    let seen = shown(map) & went_out(s);
+    let seen = shown(map) & went_out(x.sets);
     Transfer {
-        parcel: p,
-        generation: generation,
         sets: Sets {
-            queue: s.queue,
-            in_flight: s.in_flight,
-            transmitted: s.transmitted,
-            observed: s.observed | seen,
+            observed: x.sets.observed | seen,
             received_status: true,
+            ..x.sets
         },
-        echo: x.echo,
         blocks: Blocks {
-            last_progress: Since::Block(block),
-            last_frame: frame,
-            waiting_since: Since::Never,
+            last_progress: Some(block),
+            waiting_since: None,
+            ..x.blocks
         },
+        ..x
     }
 }

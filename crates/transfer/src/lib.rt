@@ -7,30 +7,33 @@ pub mod constants;
 pub mod echo;
 pub mod effects;
 pub mod frame;
+pub mod frame_count;
 pub mod queue;
 pub mod settling;
-pub mod sought;
 pub mod store;
 
 ghost use Rattle.std.specs.Prelude.{◌≡◌};
 ghost use Rattle.transfer.specs.Numbers.{refusal_of};
+ghost use Rattle.transfer.specs.Apart.{refusals_apart};
+ghost use Rattle.transfer.specs.declared.Error.TheVariants.{Wire};
 
+use frame_count::FrameCount;
 use rach::MobileIdentity;
-use spach::{Channel, SpachError};
+use spach::{Channel, Numbered, SpachError};
 
 // Tells the transfers of one sender apart, whatever echo they hold: the owner of each is a number of its counter.
-#[derive(Clone, Copy)]
+#[derive(Clone, Copy, Debug, PartialEq, Eq)]
 pub struct TransferToken(pub u64);
 
 // Tells apart the turns of a transfer, each of which has an echo of its own.
-#[derive(Clone, Copy)]
+#[derive(Clone, Copy, Debug, PartialEq, Eq)]
 pub struct Generation(pub u64);
 
 // Tells the frames apart that were prepared.
-#[derive(Clone, Copy)]
+#[derive(Clone, Copy, Debug, PartialEq, Eq)]
 pub struct Submission(pub u64);
 
-#[derive(Clone, Copy)]
+#[derive(Clone, Copy, Debug, PartialEq, Eq)]
 pub struct FrameToken {
     pub generation: Generation,
     pub submission: Submission,
@@ -38,7 +41,7 @@ pub struct FrameToken {
 }
 
 // Why a call of the sender is refused.
-#[derive(Clone, Copy)]
+#[derive(Clone, Copy, Debug, PartialEq, Eq)]
 pub enum Error {
     Limits,
     Capacity,
@@ -49,11 +52,12 @@ pub enum Error {
     Wire(SpachError),
 }
 
-impl Error {
-    // Document 01's number.
-    pub fn number(self) -> u8
-        ensures { result ≡ refusal_of self }
-    {
+impl Numbered for Error {
+    ghost number_of = { refusal_of };
+
+    ghost numbers_apart = { refusals_apart };
+
+    fn number(self) -> u8 {
         match self {
             Error::Limits => 19,
             Error::Capacity => 20,
@@ -66,8 +70,32 @@ impl Error {
     }
 }
 
+impl From<SpachError> for Error {
+    ghost from_gives = { λ wire e. e ≡ Wire wire };
+
+    fn from(wire: SpachError) -> Error {
+        Error::Wire(wire)
+    }
+}
+
+// What the constructor of a sender was given: how many transfers may be live, the first usable block, and the guard
+// milliseconds.
+#[derive(Clone, Copy, Debug, PartialEq, Eq)]
+pub struct Limits {
+    pub capacity: usize,
+    pub startup_until_block: u64,
+    pub echo_guard_ms: u64,
+}
+
+// The block and the milliseconds of the last clock that was accepted.
+#[derive(Clone, Copy, Debug, PartialEq, Eq)]
+pub struct Clock {
+    pub last_block: u64,
+    pub last_ms: u64,
+}
+
 // How a transfer ended, with its completion number.
-#[derive(Clone, Copy)]
+#[derive(Clone, Copy, Debug, PartialEq, Eq)]
 pub enum Event {
     Complete(u64),
     Expired(u64),
@@ -75,8 +103,15 @@ pub enum Event {
     Failed { completion: u64, error: Error },
 }
 
+// What the unused places of a list of events hold.
+impl Default for Event {
+    fn default() -> Event {
+        Event::Complete(0)
+    }
+}
+
 // What is to be sent; its message stands beside it.
-#[derive(Clone, Copy)]
+#[derive(Clone, Copy, Debug, PartialEq, Eq)]
 pub struct Request {
     pub identity: MobileIdentity,
     pub channel: Channel,
@@ -84,9 +119,16 @@ pub struct Request {
     pub deadline_ms: u64,
 }
 
+// What a request that is not refused is given.
+#[derive(Clone, Copy, Debug, PartialEq, Eq)]
+pub struct Grant {
+    pub frames: FrameCount,
+    pub echo: u8,
+}
+
 // What a transfer is from first to last: its request, the length of its message, how many frames that needs, its place n in
 // the lent store, and its token.
-#[derive(Clone, Copy)]
+#[derive(Clone, Copy, Debug, PartialEq, Eq)]
 pub struct Parcel {
     pub identity: MobileIdentity,
     pub completion: u64,
@@ -94,13 +136,13 @@ pub struct Parcel {
     pub owner: TransferToken,
     pub channel: Channel,
     pub octets: u8,
-    pub frames: u8,
+    pub frames: FrameCount,
     pub n: u8,
 }
 
 // Where its frames stand, each set a number: bit k is frame k's, the Begin is frame 0 and Continue k the frame k + 1.
 // Observed are the Continues that a status showed.
-#[derive(Clone, Copy)]
+#[derive(Clone, Copy, Debug, PartialEq, Eq)]
 pub struct Sets {
     pub queue: u32,
     pub in_flight: u32,
@@ -109,21 +151,15 @@ pub struct Sets {
     pub received_status: bool,
 }
 
-// A block, once there is one.
-#[derive(Clone, Copy)]
-pub enum Since {
-    Never,
-    Block(u64),
-}
-
-#[derive(Clone, Copy)]
+// The block of its last progress, of the last frame that was submitted, and since which it waits, once there is one.
+#[derive(Clone, Copy, Debug, PartialEq, Eq)]
 pub struct Blocks {
-    pub last_progress: Since,
-    pub last_frame: Since,
-    pub waiting_since: Since,
+    pub last_progress: Option<u64>,
+    pub last_frame: Option<u64>,
+    pub waiting_since: Option<u64>,
 }
 
-#[derive(Clone, Copy)]
+#[derive(Clone, Copy, Debug, PartialEq, Eq)]
 pub struct Transfer {
     pub parcel: Parcel,
     pub generation: Generation,
@@ -132,70 +168,36 @@ pub struct Transfer {
     pub blocks: Blocks,
 }
 
+// What the unused places of a list of transfers hold.
+impl Default for Transfer {
+    fn default() -> Transfer {
+        let parcel = Parcel {
+            identity: MobileIdentity::Tmsi20(0),
+            completion: 0,
+            deadline_ms: 0,
+            owner: TransferToken(0),
+            channel: Channel::Arch,
+            octets: 0,
+            frames: FrameCount::new(1),
+            n: 0,
+        };
+        settling::begun(parcel, 0, 0)
+    }
+}
+
 // What becomes of a transfer in `advance`.
-#[derive(Clone, Copy)]
+#[derive(Clone, Copy, Debug, PartialEq, Eq)]
 pub enum Fate {
     Ends(Event),
     Restarts,
     Stays(Transfer),
 }
 
-// An echo that is not held any more, if there is one.
-#[derive(Clone, Copy)]
-pub enum FreeEcho {
-    Nothing,
-    Echo(u8),
-}
-
 // A frame ready to be sent, and the token under which it is reported.
-#[derive(Clone, Copy)]
+#[derive(Clone, Copy, Debug, PartialEq, Eq)]
 pub struct PreparedFrame {
     pub identity: MobileIdentity,
     pub octets: [u8; 14],
     pub token: FrameToken,
     pub partial_echo: u8,
-}
-
-// Whether a frame was in flight and, if so, whether all frames are transmitted with it.
-#[derive(Clone, Copy)]
-pub enum Confirmation {
-    NotFound,
-    Found { completed: bool },
-}
-
-#[derive(Clone, Copy)]
-pub enum CompletionAnswer {
-    Nothing,
-    Completion(u64),
-}
-
-#[derive(Clone, Copy)]
-pub enum Addressee {
-    Nothing,
-    Identity(MobileIdentity),
-}
-
-#[derive(Clone, Copy)]
-pub enum NextEvent {
-    Nothing,
-    Event(Event),
-}
-
-// What a transfer is sought by.
-#[derive(Clone, Copy)]
-pub enum Key {
-    Identity(MobileIdentity),
-    Owner(TransferToken),
-    Generation(Generation),
-    Echo(u8),
-    Ready,
-    Progress,
-}
-
-// The first transfer sought and its place, if there is one; else the blank transfer, and the list's length.
-#[derive(Clone, Copy)]
-pub struct Place {
-    pub held: bool,
-    pub place: usize,
-    pub transfer: Transfer,
 }

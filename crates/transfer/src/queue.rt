@@ -7,20 +7,20 @@ ghost use Rattle.transfer.specs.Queue as sets;
 pub fn front(queue: u32) -> usize
     ensures { (result ≡ sets.front queue) × (result ≤ 32) }
 {
-    u32::trailing_zeros(queue) as usize
+    queue.trailing_zeros() as usize
 }
 
 pub fn one_left(queue: u32) -> bool
     ensures { result ≡ sets.one_left queue }
 {
-    u32::count_ones(queue) == 1
+    queue.count_ones() == 1
 }
 
 // All of so many frames are in the set.
 pub fn full(frames: u8, set: u32) -> bool
     ensures { result ≡ sets.full frames set }
 {
-    u32::count_ones(set) == frames as u32
+    set.count_ones() == u32::from(frames)
 }
 
 // Those of a that are not in b.
@@ -50,8 +50,7 @@ pub fn continues_of(n: u8) -> u32
     requires { n ≤ 27 }
     ensures { result ≡ sets.continues_of n }
 {
-    let all = first_frames(n);
-    all - all % 2
+    first_frames(n).saturating_sub(1)
 }
 
 pub fn frame_alone(k: usize) -> u32

@@ -9,11 +9,7 @@ pub fn put_message(part: &mut [u8], message: &[u8])
     requires { length message.now ≤ length part.old }
     ensures { part.new ≡ message.now ++ drop (length message.now) part.old }
 {
-    let mut i = 0;
-    while i < message.len() {
-        part[i] = message[i];
-        i += 1;
-    }
+    part[..message.len()].copy_from_slice(message);
 }
 
 pub fn store_message(store: &mut [u8], n: usize, message: &[u8])

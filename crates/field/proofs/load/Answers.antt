@@ -1,12 +1,21 @@
--- `field::load` meets its contract: four octets and four are eight. Assumes nothing.
+-- `field::load` meets its contract: eight octets are read at once, fewer are shifted in. Assumes nothing.
 use mathlib.Core.Path.{◌≡◌, ap, ◌∙◌}
+use Prim.Native.Nat.{◌*◌, ◌%◌, ◌^◌}
 use native.Mathlib.Omega.{arith}
-use Rattle.field.specs.Spans.{window}
-use Rattle.field.proofs.Window.{halves}
+use borrow.Author.Rules.{rules}
+use lib.Bits.{bit_or}
+use mir.Syntax.{w64}
+use Rattle.std.specs.Prelude.{fold}
+use Rattle.std.specs.Int.{from_be_bytes}
+use Rattle.field.proofs.Window.{be-value, fold-value}
 use Rattle.field.proofs.load.Goals as goal
 
-pub returns-then-n-eq8 : goal.returns-then-n-eq8
-returns-then-n-eq8 c =
-    let a = c.args in
-    let e : 8 ≡ a.n = omega arith in
-    halves a.s.now a.first (omega arith) c.number.ensures c.number-then-n-eq8.ensures ∙ ap (window a.s.now a.first) e
+pub returns-in-Ok : goal.returns-in-Ok
+returns-in-Ok c =
+    let w = c.in-Ok.ensures.1 in
+    c.from_be_bytes.ensures ∙ ap (from_be_bytes w64) w.same ∙ be-value c.args.octets.now w.long (λ i. (c.type_inv.octets i).fits)
+
+pub returns-in-Err : goal.returns-in-Err
+returns-in-Err c =
+    let e : c.fold.result ≡ fold (λ a x. bit_or ((a * 2 ^ 8) % 2 ^ 64) x) 0 c.args.octets.now = search rules in
+    e ∙ fold-value c.args.octets.now 0 (λ i. (c.type_inv.octets i).fits) (omega arith) (omega arith) ∙ omega arith

@@ -6,4 +6,4 @@ use Rattle.listing.proofs.value_of.Goals as goal
 
 pub returns : goal.returns
 returns c =
-    ap₂ (λ a b. a * 4294967296 + b) c.read_field-high.ensures.0 c.read_field.ensures.0 ∙ halves c.args.octets.now c.requires.0
+    ap₂ (λ a b. a * 4294967296 + b) c.read_field-high.ensures.value c.read_field.ensures.value ∙ halves c.args.octets.now c.requires.enough

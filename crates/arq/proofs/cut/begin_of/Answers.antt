@@ -5,4 +5,4 @@ use Rattle.arq.proofs.cut.begin_of.Goals as goal
 pub returns : goal.returns
 returns c =
     let a = c.args in
-    begin_cut a.header a.identity a.message.now c.room_of-room.ensures.0 c.lesser-bits.ensures c.begin_octets-octets.ensures c.a_begin.ensures
+    begin_cut a.header a.identity a.message.now c.room_of.ensures.exact c.min-bits.ensures c.data_octets-data.ensures c.a_begin.ensures

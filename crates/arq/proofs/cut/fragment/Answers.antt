@@ -1,29 +1,32 @@
 -- `arq::cut::fragment` meets its contract. Assumes nothing.
+use mathlib.Core.Path.{◌≡◌, sym, ap, ◌∙◌}
+use Prim.Native.Nat.{suc, ◌-◌}
 use native.Mathlib.Omega.{arith}
-use Rattle.arq.proofs.Fragments.{cut_short, frame_refused, frame_past, frame_cut}
+use Rattle.spach.specs.Refusal.{number_of}
+use Rattle.spach.proofs.Outcomes.{handed_on}
+use Rattle.arq.specs.Cut.{cut_frame}
+use Rattle.arq.proofs.Fragments.{frame_refused, frame_past, frame_cut}
 use Rattle.arq.proofs.cut.fragment.Goals as goal
 
-pub returns-in-Refused : goal.returns-in-Refused
-returns-in-Refused c =
+pub returns-in_err-check_cut : goal.returns-in_err-check_cut
+returns-in_err-check_cut c =
     let a = c.args in
-    frame_refused a.header a.identity a.message.now c.check_cut.ensures a.k c.in-Refused.is c.refused.ensures
-
-pub frames_of-requires : goal.frames_of-requires
-frames_of-requires c =
-    let a = c.args in
-    cut_short a.header a.identity a.message.now c.check_cut.ensures c.in_default.is
+    handed_on number_of c.from_residual.result c.from_residual.ensures.1 ∙ frame_refused a.header a.identity a.message.now a.k c.in_err-check_cut.ensures
 
 pub returns-then-frames_of-k : goal.returns-then-frames_of-k
 returns-then-frames_of-k c =
     let a = c.args in
-    frame_past a.header a.identity a.message.now c.check_cut.ensures a.k c.frames_of.ensures c.in_default.is c.if-frames_of-k.true c.refused-then-frames_of-k.ensures
+    frame_past a.header a.identity a.message.now a.k c.frames_of.ensures c.in_ok-check_cut.ensures c.if-frames_of-k.true
 
-pub frame_at-requires : goal.frame_at-requires
-frame_at-requires c =
+pub returns-then-k-eq0 : goal.returns-then-k-eq0
+returns-then-k-eq0 c =
     let a = c.args in
-    (cut_short a.header a.identity a.message.now c.check_cut.ensures c.in_default.is, omega arith)
+    frame_cut a.header a.identity a.message.now a.k c.frames_of.ensures c.in_ok-check_cut.ensures c.if-frames_of-k.false
+    (c.begin_of.ensures ∙ ap (cut_frame a.header a.identity a.message.now) (sym c.if-k-eq0.true))
 
-pub returns : goal.returns
-returns c =
+pub returns-else-k-eq0 : goal.returns-else-k-eq0
+returns-else-k-eq0 c =
     let a = c.args in
-    frame_cut a.header a.identity a.message.now c.check_cut.ensures a.k c.frames_of.ensures c.in_default.is c.if-frames_of-k.false c.frame_at.ensures
+    let e : suc (a.k - 1) ≡ a.k = omega arith in
+    frame_cut a.header a.identity a.message.now a.k c.frames_of.ensures c.in_ok-check_cut.ensures c.if-frames_of-k.false
+    (c.continue_of.ensures ∙ ap (cut_frame a.header a.identity a.message.now) e)

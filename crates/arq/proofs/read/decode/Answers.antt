@@ -1,23 +1,32 @@
 -- `arq::read::decode` meets its contract. Assumes nothing.
-use mathlib.Core.Path.{sym, ap, ◌∙◌}
-use Rattle.spach.specs.Answered.{answered}
-use Rattle.spach.specs.Header.{header_a_answer}
-use Rattle.arq.specs.Frame.{blank_frame}
+use mathlib.Core.Path.{ap, ◌∙◌}
+use Rattle.field.specs.Bits.{bits_of, field}
+use Rattle.spach.specs.Refusal.{number_of}
+use Rattle.spach.specs.Header.{header_a_at}
+use Rattle.spach.proofs.Outcomes.{handed_on}
+use Rattle.arq.specs.Parts.{decode_usage}
 use Rattle.arq.proofs.Decoded.{decode-length, decode_padding, decode-header}
 use Rattle.arq.proofs.read.decode.Goals as goal
 
-pub returns-then-octets-ne14 : goal.returns-then-octets-ne14
-returns-then-octets-ne14 c = c.refused.ensures ∙ ap (answered blank_frame) (decode-length c.args.octets.now c.if-octets-ne14.true)
+pub returns-in_default : goal.returns-in_default
+returns-in_default c = decode-length c.args.octets.now c.in_default.ensures.1
 
 pub returns-then-read_field-ne0 : goal.returns-then-read_field-ne0
-returns-then-read_field-ne0 c = c.refused-then-read_field-ne0.ensures ∙ ap (answered blank_frame) (decode_padding c.args.octets.now c.if-octets-ne14.false c.read_field.ensures.0 c.if-read_field-ne0.true)
+returns-then-read_field-ne0 c =
+    let w = c.in-Ok.ensures.1 in
+    decode_padding c.args.octets.now w.long (c.read_field.ensures.value ∙ ap (λ l. field 109 3 (bits_of l)) w.same) c.if-read_field-ne0.true
 
-pub returns-in-Header : goal.returns-in-Header
-returns-in-Header c =
+pub returns-in_err-a : goal.returns-in_err-a
+returns-in_err-a c =
+    let w = c.in-Ok.ensures.1 in
+    handed_on number_of c.from_residual.result c.from_residual.ensures.1
+    ∙ decode-header c.args.octets.now w.long (c.read_field.ensures.value ∙ ap (λ l. field 109 3 (bits_of l)) w.same) c.if-read_field-ne0.false
+    (c.in_err-a.ensures ∙ ap (λ l. header_a_at 0 (bits_of l)) w.same)
+
+pub returns : goal.returns
+returns c =
+    let w = c.in-Ok.ensures.1 in
     c.decode_usage.ensures
-    ∙ ap (answered blank_frame) (decode-header c.args.octets.now c.if-octets-ne14.false c.read_field.ensures.0 c.if-read_field-ne0.false (sym (ap header_a_answer c.in-Header.is) ∙ c.read_header_a-answer.ensures))
-
-pub returns-in-Refused : goal.returns-in-Refused
-returns-in-Refused c =
-    c.refused-in-Refused.ensures
-    ∙ ap (answered blank_frame) (decode-header c.args.octets.now c.if-octets-ne14.false c.read_field.ensures.0 c.if-read_field-ne0.false (sym (ap header_a_answer c.in-Refused.is) ∙ c.read_header_a-answer.ensures))
+    ∙ ap (λ l. decode_usage c.in_ok-a.a (bits_of l)) w.same
+    ∙ decode-header c.args.octets.now w.long (c.read_field.ensures.value ∙ ap (λ l. field 109 3 (bits_of l)) w.same) c.if-read_field-ne0.false
+    (c.in_ok-a.ensures ∙ ap (λ l. header_a_at 0 (bits_of l)) w.same)

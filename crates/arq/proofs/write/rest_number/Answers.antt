@@ -3,4 +3,4 @@ use Rattle.arq.proofs.Written.{rest_number}
 use Rattle.arq.proofs.write.rest_number.Goals as goal
 
 pub returns : goal.returns
-returns c = rest_number c.args.header c.flag-polling.ensures.0 c.mode-m.ensures.0
+returns c = rest_number c.args.header c.from-echo.ensures c.from-polling.ensures c.mode-m.ensures.exact

@@ -1,34 +1,39 @@
 -- `listing::show::show` meets its contract. Assumes nothing.
-use mathlib.Core.Path.{◌≡◌}
-use mathlib.Core.Bool.{true}
-use Prim.Native.Nat.{◌<◌}
-use native.Mathlib.Omega.{arith}
-use lib.ListN.{length, take}
-use Rattle.listing.proofs.Opened.{made_valid, follows-short, follows_refused, follows-accepted, reads_all}
-use borrow.Author.Rules.{rules}
+use Rattle.std.proofs.Common.{arith, sym}
+use Rattle.std.proofs.lemmas.Result.{IfOk-at_ok, on_ok_weaker}
+use Rattle.listing.proofs.Opened.{opened_valid, opened_nine}
+use Rattle.listing.proofs.Shown.{reads_first, reads_given, prints_refused, prints_given}
 use Rattle.listing.proofs.show.show.Goals as goal
 
-pub returns-then-got : goal.returns-then-got
-returns-then-got g c =
-    let size : length c.read_some-got.new.room ≡ 9 = search rules in
-    let failed : c.read_some-got.result.failed ≡ true = search rules in
-    let few : length (take c.read_some-got.result.count c.read_some-got.new.room) < 9 = omega (arith, size, c.read_some-got.ensures.0.1, c.read_some-got.ensures.2 failed) in
-    (omega (arith, c.read_some-got.ensures.1), reads_all _ _ _ c.read_some-got.new.room size c.read_some-got.ensures.0 c.read_some-got.ensures.1 (follows-short (take c.read_some-got.result.count c.read_some-got.new.room) _ few))
+pub returns-in-Err-clause-reads : goal.returns-in-Err-clause-reads
+returns-in-Err-clause-reads g c =
+    let read = c.read_some-read.ensures in
+    reads_first _ _ _ c.read_some-read.result.0.now read.most (omega (arith, read.inside)) read.bytes
 
-pub returns-in-Refused : goal.returns-in-Refused
-returns-in-Refused g c =
-    let size : length c.read_some-got.new.room ≡ 9 = search rules in
-    let made = c.open-made in
-    (omega (arith, c.read_some-got.ensures.1), reads_all _ _ _ c.read_some-got.new.room size c.read_some-got.ensures.0 c.read_some-got.ensures.1 (follows_refused (take c.read_some-got.result.count c.read_some-got.new.room) made.result made.ensures c.in-Refused.is _))
+pub returns-in_default-open-clause-reads : goal.returns-in_default-open-clause-reads
+returns-in_default-open-clause-reads g c =
+    let read = c.read_some-read.ensures in
+    reads_first _ _ _ c.read_some-read.result.0.now read.most (omega (arith, read.inside)) read.bytes
 
-pub show_all-requires : goal.show_all-requires
-show_all-requires g c =
-    let made = c.open-made in
-    made_valid _ made.result made.ensures c.in_default.is
+pub returns-in_default-open-clause-prints : goal.returns-in_default-open-clause-prints
+returns-in_default-open-clause-prints g c =
+    let read = c.read_some-read.ensures in
+    on_ok_weaker c.write_all.result
+    (prints_refused _ _ _ _ _ _ _ read.most (omega (arith, read.inside)) read.bytes (IfOk-at_ok _ c.in_default.is read.end) (sym c.in_default-open.ensures))
+    c.write_all.ensures.bytes
 
-pub returns : goal.returns
-returns g c =
-    let size : length c.read_some-got.new.room ≡ 9 = search rules in
-    let made = c.open-made in
-    let rest = c.show_all.ensures in
-    (omega (arith, c.read_some-got.ensures.1, rest.0), reads_all _ _ _ c.read_some-got.new.room size c.read_some-got.ensures.0 c.read_some-got.ensures.1 (follows-accepted (take c.read_some-got.result.count c.read_some-got.new.room) made.result made.ensures c.in_default.is _ _ rest.1))
+pub show_all-left-requires : goal.show_all-left-requires
+show_all-left-requires g c = opened_valid _ _ (sym c.in-Ok.ensures)
+
+pub returns-clause-reads : goal.returns-clause-reads
+returns-clause-reads g c =
+    let read = c.read_some-read.ensures in
+    let given = sym c.in-Ok.ensures in
+    reads_given _ _ _ _ _ _ _ read.most (omega (arith, read.inside, opened_nine _ _ given)) read.bytes given c.show_all-left.ensures.reads
+
+pub returns-clause-prints : goal.returns-clause-prints
+returns-clause-prints g c =
+    let read = c.read_some-read.ensures in
+    let given = sym c.in-Ok.ensures in
+    rw c.and.ensures
+    (prints_given _ _ _ _ _ _ _ _ _ _ read.most (omega (arith, read.inside, opened_nine _ _ given)) read.bytes given c.write_all-said.ensures.bytes c.show_all-left.ensures.prints)

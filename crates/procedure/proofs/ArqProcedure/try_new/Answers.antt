@@ -1,9 +1,7 @@
 -- `procedure::ArqProcedure::try_new` meets its contract. Assumes nothing.
-use Rattle.procedure.proofs.Calls.{made_refused, made-accepted}
+use mathlib.Core.Path.{sym}
+use Rattle.procedure.proofs.Invariant.{sound_made}
 use Rattle.procedure.proofs.ArqProcedure.try_new.Goals as goal
 
-pub returns-in-Refused : goal.returns-in-Refused
-returns-in-Refused c = let a = c.args in made_refused a.identity a.first c.try_new-made.ensures c.in-Refused.is c.new-blank.ensures.0
-
-pub returns : goal.returns
-returns c = let a = c.args in made-accepted a.identity a.first c.try_new-made.ensures c.in_default.is c.new-inactivity.ensures.0
+pub invariant_of-result : goal.invariant_of-result
+invariant_of-result c = rw c.new.ensures (sound_made c.args.identity c.args.first (sym c.in_ok-try_new.ensures))

@@ -1,17 +1,20 @@
 -- `sender::Sender::cancel_transaction` meets its contract. Assumes nothing.
-use mathlib.Core.List.{[]}
-use Rattle.transfer.specs.Cancel.{cancel_transaction_of}
-use Rattle.transfer.specs.History.{CancelTransaction}
-use Rattle.transfer.proofs.Lives.{does-kept}
-use Rattle.sender.specs.Arrays.{view_of}
-use Rattle.sender.proofs.Slots.{whole_after}
+use Rattle.std.proofs.Common.{true, false}
+use Rattle.transfer.specs.State.{says, blank_transfer, cancel_at}
+use Rattle.transfer.specs.Cancel.{owned_by, cancel_transaction_of}
+use Rattle.transfer.proofs.Placed.{seek_at, seek_none}
+use Rattle.sender.specs.View.{view_of}
 use Rattle.sender.proofs.Sender.cancel_transaction.Goals as goal
 
-pub cancel_first-requires : goal.cancel_first-requires
-cancel_first-requires c = c.requires
+pub returns-in_default : goal.returns-in_default
+unfolding cancel_transaction_of
+returns-in_default c =
+    let v = view_of c.self.inside.table in
+    rw (← c.self.view_is) (seek_none (owned_by c.args.token) v.transfers (says false v) (λ place x. says true (cancel_at v place x)) c.in_default.ensures.place)
 
 pub returns : goal.returns
 unfolding cancel_transaction_of
 returns c =
-    let e = c.cancel_first.ensures in let both = whole_after e.0 e.1 (does-kept (view_of c.args.self) (record { octets = []; words = [] }) (CancelTransaction c.args.token) c.requires.sound) in
-    record { result_value = both.0; whole = both.1 }
+    let v = view_of c.self.inside.table in
+    rw (c.cancel_at.ensures, ← c.self.view_is)
+    (seek_at (owned_by c.args.token) v.transfers (says false v) (λ place x. says true (cancel_at v place x)) c.in-Some.ensures.place blank_transfer)

@@ -1,25 +1,20 @@
 -- `sender::Sender::identity_for_echo` meets its contract. Assumes nothing.
-use borrow.Author.Tests.{not-true, not-false}
-use mathlib.Core.Option.{none, some}
-use Rattle.transfer.specs.Queries.{identity_for_echo_of}
+use Rattle.std.proofs.Common.{None, Some}
 use Rattle.transfer.specs.State.{of_echo}
-use Rattle.sender.specs.Arrays.{view_of}
-use Rattle.sender.proofs.Found.{seek_found, seek_none}
+use Rattle.transfer.specs.Queries.{identity_for_echo_of}
+use Rattle.transfer.proofs.Placed.{seek_at, seek_none}
+use Rattle.sender.specs.View.{view_of}
 use Rattle.sender.proofs.Sender.identity_for_echo.Goals as goal
 
-pub find-found-requires : goal.find-found-requires
-find-found-requires c = c.requires.fitted
-
-pub returns-then-not-found : goal.returns-then-not-found
+pub returns-in_err-place : goal.returns-in_err-place
 unfolding identity_for_echo_of
-returns-then-not-found c =
-    let a = c.args in
-    let f = c.find-found in
-    seek_none (of_echo a.echo) (view_of a.self).transfers none (λ place x. some x.parcel.identity) f.ensures (not-true f.result.held c.if-not-found.true)
+returns-in_err-place c =
+    let v = view_of c.self.inside.table in
+    rw (c.from_residual.ensures, ← c.self.view_is) (seek_none (of_echo c.args.echo) v.transfers None (λ place x. Some x.parcel.identity) c.in_err-place.ensures.place)
 
 pub returns : goal.returns
 unfolding identity_for_echo_of
 returns c =
-    let a = c.args in
-    let f = c.find-found in
-    seek_found (of_echo a.echo) (view_of a.self).transfers none (λ place x. some x.parcel.identity) f.ensures (not-false f.result.held c.if-not-found.false)
+    let v = view_of c.self.inside.table in
+    rw (c.deref.ensures.0, ← c.self.view_is)
+    (seek_at (of_echo c.args.echo) v.transfers None (λ place x. Some x.parcel.identity) c.in_ok-place.ensures.place c.index-deref-place.result)

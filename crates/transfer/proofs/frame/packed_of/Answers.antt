@@ -1,9 +1,17 @@
 -- `transfer::frame::packed_of` meets its contract. Assumes nothing.
-use Rattle.transfer.proofs.Framed.{cut_out, packed_refused, packed_encoded}
+use mathlib.Core.Path.{◌∙◌}
+use Rattle.spach.specs.Refusal.{number_of}
+use Rattle.spach.proofs.Outcomes.{handed_on}
+use Rattle.transfer.proofs.Framed.{cut_out, packed_by}
 use Rattle.transfer.proofs.frame.packed_of.Goals as goal
 
-pub returns-in-Refused : goal.returns-in-Refused
-returns-in-Refused c = let a = c.args in packed_refused a.x a.octets.now a.k a.polling (cut_out a.x a.octets.now) c.header_of-header.ensures c.fragment-cut.ensures c.in-Refused.is
+pub returns-in_err-frame : goal.returns-in_err-frame
+returns-in_err-frame c =
+    let a = c.args in
+    handed_on number_of c.from_residual.result c.from_residual.ensures.1
+    ∙ packed_by a.x.now a.octets.now a.k a.polling (cut_out a.x.now a.octets.now c.from-start.ensures c.from.ensures) c.header_of-header.ensures c.in_err-frame.ensures
 
 pub returns : goal.returns
-returns c = let a = c.args in packed_encoded a.x a.octets.now a.k a.polling (cut_out a.x a.octets.now) c.header_of-header.ensures c.fragment-cut.ensures c.in_default.is c.encode.ensures
+returns c =
+    let a = c.args in
+    c.encode.ensures ∙ packed_by a.x.now a.octets.now a.k a.polling (cut_out a.x.now a.octets.now c.from-start.ensures c.from.ensures) c.header_of-header.ensures c.in_ok-frame.ensures

@@ -1,0 +1,35 @@
+-- Rows of the table (script_wire/specs/Table.antt). Assumes nothing.
+use Rattle.std.specs.Prelude.{ℕ}
+use Rattle.script_sender.specs.declared.ops.Op.{Op}
+use Rattle.script_sender.specs.declared.ops.Op.TheVariants.{Message, New, Lend, CanEnqueue, Enqueue, Advance, Prepare, HasEcho, Interrupt, Prioritized, Submitted, SubmittedMessage, Transmitted, Status, Cancel, CancelTransaction, CancelAll, Refresh, IdentityForEcho, RadioActive, Ready, Contains, PopEvent, Pending, State, Transfer, Event, Echoes, Sums}
+
+abbrev pub row_of : Op → ℕ × ℕ × ℕ
+row_of Message = (0x0e, 9, 1)
+row_of New = (0x27, 33, 1)
+row_of Lend = (0x28, 4, 1)
+row_of CanEnqueue = (0x29, 16, 2)
+row_of Enqueue = (0x2a, 44, 9)
+row_of Advance = (0x2b, 16, 1)
+row_of Prepare = (0x2c, 16, 50)
+row_of HasEcho = (0x2d, 1, 2)
+row_of Interrupt = (0x2e, 17, 2)
+row_of Prioritized = (0x2f, 17, 50)
+row_of Submitted = (0x30, 40, 1)
+row_of SubmittedMessage = (0x31, 24, 10)
+row_of Transmitted = (0x32, 40, 3)
+row_of Status = (0x33, 21, 2)
+row_of Cancel = (0x34, 9, 2)
+row_of CancelTransaction = (0x35, 8, 2)
+row_of CancelAll = (0x36, 0, 1)
+row_of Refresh = (0x37, 16, 1)
+row_of IdentityForEcho = (0x38, 1, 11)
+row_of RadioActive = (0x39, 0, 2)
+row_of Ready = (0x3a, 0, 2)
+row_of Contains = (0x3b, 9, 2)
+row_of PopEvent = (0x3c, 0, 12)
+row_of Pending = (0x3d, 0, 2)
+row_of State = (0x3e, 0, 95)
+row_of Transfer = (0x3f, 1, 91)
+row_of Event = (0x40, 2, 12)
+row_of Echoes = (0x41, 1, 129)
+row_of Sums = (0x42, 0, 17)
