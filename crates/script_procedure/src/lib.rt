@@ -10,7 +10,7 @@ use script_inactivity::{put_timer, status_result};
 use script_receiver::filled;
 use script_receiver::values::put_status;
 use script_wire::run::{Machine, Operation, Unknown, put};
-use script_wire::{Answer, NO_CALL, Operands, Refused, Values};
+use script_wire::{Answer, NO_CALL, Operands, Values, keep};
 
 #[derive(Clone, Copy, Debug, PartialEq, Eq)]
 pub enum Op {
@@ -74,17 +74,6 @@ impl Procedure {
         Procedure { held: None }
     }
 
-    fn held(&self) -> Result<ArqProcedure, Refused> {
-        self.held.ok_or(NO_CALL)
-    }
-
-    // What a call leaves is kept, what it gives is handed on.
-    fn keep<A>(&mut self, done: (ArqProcedure, A)) -> A {
-        let (after, given) = done;
-        self.held = Some(after);
-        given
-    }
-
     // A refusal leaves none.
     fn make(&mut self, mut operands: Operands<'_>) -> Answer<0>
         requires { length operands ≡ 17 }
@@ -96,25 +85,28 @@ impl Procedure {
     }
 
     fn reset(&mut self) -> Answer<0> {
-        let held = self.held()?;
-        self.keep(held.reset())?;
+        let held = self.held.ok_or(NO_CALL)?;
+        keep(&mut self.held, held.reset())?;
         Ok(Values::new())
     }
 
     fn active(&self) -> Answer<1> {
-        Ok(Values::flag(self.held()?.active()))
+        Ok(Values::flag(self.held.ok_or(NO_CALL)?.active()))
     }
 
     // The whole buffer after the event.
     fn receive(&mut self, mut operands: Operands<'_>) -> Answer<335>
         requires { length operands ≡ 44 }
     {
-        let held = self.held()?;
+        let held = self.held.ok_or(NO_CALL)?;
         let block = operands.eight();
         let octets = operands.frame()?;
         let room = operands.length()?;
         let mut buffer = filled(room, operands.octet());
-        let event = self.keep(held.receive(block, octets, &mut buffer[..room]))?;
+        let event = keep(
+            &mut self.held,
+            held.receive(block, octets, &mut buffer[..room]),
+        )?;
         let mut values = Values::new();
         values::put_receive(&mut values, event);
         values.extend(&buffer);
@@ -124,8 +116,8 @@ impl Procedure {
     fn advance(&mut self, mut operands: Operands<'_>) -> Answer<18>
         requires { length operands ≡ 8 }
     {
-        let held = self.held()?;
-        let event = self.keep(held.advance(operands.eight()))?;
+        let held = self.held.ok_or(NO_CALL)?;
+        let event = keep(&mut self.held, held.advance(operands.eight()))?;
         Ok(values::timer_values(event))
     }
 
@@ -133,16 +125,16 @@ impl Procedure {
     fn sent(&mut self, mut operands: Operands<'_>) -> Answer<1>
         requires { length operands ≡ 25 }
     {
-        let held = self.held()?;
+        let held = self.held.ok_or(NO_CALL)?;
         let block = operands.eight();
         let transmission = values::transmission(&mut operands)?;
         let res = status_result(&mut operands)?;
-        let event = self.keep(held.status_sent(block, transmission, res))?;
+        let event = keep(&mut self.held, held.status_sent(block, transmission, res))?;
         Ok(Values::from([event as u8]))
     }
 
     fn state(&self) -> Answer<41> {
-        let held = self.held()?;
+        let held = self.held.ok_or(NO_CALL)?;
         let receiver = held.receiver();
         let mut values = Values::new();
         put_timer(&mut values, held.inactivity());

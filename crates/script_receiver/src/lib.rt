@@ -7,7 +7,7 @@ ghost use Rattle.std.specs.Prelude.{◌≡◌, ◌≤◌, length};
 
 use receiver::ArqReassembler;
 use script_wire::run::{Machine, Operation, Unknown, put};
-use script_wire::{Answer, NO_CALL, Operands, Refused, Values};
+use script_wire::{Answer, NO_CALL, Operands, Values, keep};
 
 #[derive(Clone, Copy, Debug, PartialEq, Eq)]
 pub enum Op {
@@ -74,10 +74,6 @@ impl Receiver {
         Receiver { held: None }
     }
 
-    fn held(&self) -> Result<ArqReassembler, Refused> {
-        self.held.ok_or(NO_CALL)
-    }
-
     // A refusal leaves none.
     fn make(&mut self, mut operands: Operands<'_>) -> Answer<0>
         requires { length operands ≡ 9 }
@@ -92,31 +88,30 @@ impl Receiver {
     fn push(&mut self, mut operands: Operands<'_>) -> Answer<326>
         requires { length operands ≡ 36 }
     {
-        let held = self.held()?;
+        let held = self.held.ok_or(NO_CALL)?;
         let octets = operands.frame()?;
         let room = operands.length()?;
         let mut buffer = filled(room, operands.octet());
-        let (after, pushed) = held.push(octets, &mut buffer[..room]);
-        self.held = Some(after);
+        let reception = keep(&mut self.held, held.push(octets, &mut buffer[..room]))?;
         let mut values = Values::new();
-        values::put_reception(&mut values, pushed?);
+        values::put_reception(&mut values, reception);
         values.extend(&buffer);
         Ok(values)
     }
 
     fn reset(&mut self) -> Answer<0> {
-        self.held = Some(self.held()?.reset());
+        self.held = Some(self.held.ok_or(NO_CALL)?.reset());
         Ok(Values::new())
     }
 
     fn status(&self) -> Answer<6> {
         let mut values = Values::new();
-        values::put_status(&mut values, self.held()?.status());
+        values::put_status(&mut values, self.held.ok_or(NO_CALL)?.status());
         Ok(values)
     }
 
     fn complete(&self) -> Answer<1> {
-        Ok(Values::flag(self.held()?.complete()))
+        Ok(Values::flag(self.held.ok_or(NO_CALL)?.complete()))
     }
 }
 

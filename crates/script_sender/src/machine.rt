@@ -6,7 +6,7 @@ use crate::values::{event_values, put_held, put_prepared, state_values, transfer
 use crate::{OCTETS, WORDS, sums};
 use receiver::ArqStatus;
 use script_wire::run::{Machine, put};
-use script_wire::{Answer, NO_CALL, Operands, Refused, Values, low};
+use script_wire::{Answer, NO_CALL, Operands, Refused, Values, keep, low};
 use sender::Sender;
 use transfer::{Error, FrameToken, Generation, PreparedFrame, Request, Submission, TransferToken};
 
@@ -37,7 +37,7 @@ fn prepared(frame: Result<Option<PreparedFrame>, Error>) -> Answer<49> {
     Ok(values)
 }
 
-// A call on the first so many of these octets and words.
+// A call on the first so many of these octets and words; apart, since a part of what a field lends goes to no bound yet.
 fn on_lent<A, F>(
     sender: Sender,
     octets: &mut [u8],
@@ -96,9 +96,8 @@ impl<'a> Lender<'a> {
         let words_lent = self.words_lent;
         let octets = &mut *self.octets;
         let words = &mut *self.words;
-        let (after, given) = on_lent(sender, octets, octets_lent, words, words_lent, call);
-        self.sender = Some(after);
-        Ok(given)
+        let done = on_lent(sender, octets, octets_lent, words, words_lent, call);
+        Ok(keep(&mut self.sender, done))
     }
 
     // The memory is filled, and the sender is a new one, or none.

@@ -113,28 +113,28 @@ where
     sum
 }
 
-pub fn received_frame(timer: ArqInactivity, block: u64) -> (ArqInactivity, u64) {
+pub fn received_frame(timer: &mut ArqInactivity, block: u64) -> u64 {
     let (after, moved) = timer.received_frame(block);
-    let told = match moved {
+    *timer = after;
+    match moved {
         Ok(()) => 1,
         Err(error) => number(error),
-    };
-    (after, told)
+    }
 }
 
-pub fn advance(timer: ArqInactivity, block: u64) -> (ArqInactivity, u64) {
+pub fn advance(timer: &mut ArqInactivity, block: u64) -> u64 {
     let (after, action) = timer.advance(block);
-    let told = match action {
+    *timer = after;
+    match action {
         Ok(action) => action as u64,
         Err(error) => number(error),
-    };
-    (after, told)
+    }
 }
 
 // A call for each octet, so many blocks later, of a timer that waits.
-pub fn timers<F>(steps: &[u8], call: F) -> u64
+pub fn timers<F>(steps: &[u8], mut call: F) -> u64
 where
-    F: Fn(ArqInactivity, u64) -> (ArqInactivity, u64),
+    F: FnMut(&mut ArqInactivity, u64) -> u64,
     requires { F.IsAlwaysCallable call }
 {
     let (mut timer, _) = ArqInactivity::new(0).received_frame(0);
@@ -142,9 +142,7 @@ where
     let mut sum: u64 = 0;
     for step in steps {
         block = block.wrapping_add(u64::from(*step));
-        let (after, told) = call(timer, block);
-        timer = after;
-        sum = sum.wrapping_add(told);
+        sum = sum.wrapping_add(call(&mut timer, block));
     }
     sum
 }

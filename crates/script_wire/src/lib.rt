@@ -162,6 +162,10 @@ impl<const N: usize> Model for Values<N> {
 }
 
 impl<const N: usize> From<[u8; N]> for Values<N> {
+    ghost use Rattle.std.specs.Prelude.{◌≡◌};
+
+    ghost from_gives = { λ octets values. values ≡ octets };
+
     fn from(octets: [u8; N]) -> Self {
         Values {
             octets: octets.into(),
@@ -222,6 +226,15 @@ impl<const N: usize> Values<N> {
     {
         &self.octets
     }
+}
+
+// What a call leaves is held on, what it gives is handed on.
+pub fn keep<T: Drop, A>(held: &mut Option<T>, done: (T, A)) -> A
+    ensures { (held.new ≡ Some (done.0)) × (result ≡ done.1) }
+{
+    let (after, given) = done;
+    *held = Some(after);
+    given
 }
 
 // The octet of a number that is below 256.
