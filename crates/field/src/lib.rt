@@ -39,7 +39,9 @@ fn window_start(octets: usize, n: usize, o: usize) -> usize
     requires { n ≤ octets }
     ensures { result ≡ min (o / 8) (octets - n) }
 {
-    (o / 8).min(octets - n)
+    // Tried with `min`: it comes out as a branch, a nanosecond of each read.
+    let last = octets - n;
+    if o / 8 < last { o / 8 } else { last }
 }
 
 // The field of w bits at bit offset o.

@@ -211,15 +211,13 @@ impl ArqInactivity {
     }
 
     // Waiting from the clock's block on.
-    pub fn wait(self) -> Self
+    pub fn wait(mut self) -> Self
         ensures { result ≡ waiting self }
     {
-        ArqInactivity {
-            state: State::Waiting {
-                since_block: self.last_block,
-            },
-            ..self
-        }
+        self.state = State::Waiting {
+            since_block: self.last_block,
+        };
+        self
     }
 
     // Fewer than 4 tokens left: 18.
@@ -233,16 +231,14 @@ impl ArqInactivity {
     }
 
     // The clock gone back: 17; else it is moved.
-    pub fn tick(self, tdma_block: u64) -> Result<Self, InactivityError>
+    pub fn tick(mut self, tdma_block: u64) -> Result<Self, InactivityError>
         ensures { by_number clock_number result ≡ ticked self tdma_block }
     {
         if tdma_block < self.last_block {
             return Err(InactivityError::ClockBackwards);
         }
-        Ok(ArqInactivity {
-            last_block: tdma_block,
-            ..self
-        })
+        self.last_block = tdma_block;
+        Ok(self)
     }
 
     // 18, then 17; else the clock is moved.
@@ -253,19 +249,16 @@ impl ArqInactivity {
     }
 
     // What is due at the clock's block.
-    pub fn due(self) -> (Self, InactivityAction)
+    pub fn due(mut self) -> (Self, InactivityAction)
         ensures { result ≡ due_of self }
     {
         match self.state {
             State::Waiting { since_block }
                 if !self.unsolicited_pending
                     && INACTIVITY_BLOCKS <= self.last_block - since_block => {
-                let asking = ArqInactivity {
-                    state: State::SendingUnsolicited,
-                    unsolicited_pending: true,
-                    ..self
-                };
-                (asking, InactivityAction::RequestUnsolicitedStatus)
+                self.state = State::SendingUnsolicited;
+                self.unsolicited_pending = true;
+                (self, InactivityAction::RequestUnsolicitedStatus)
             }
             State::FinalWait { since_block }
                 if INACTIVITY_BLOCKS <= self.last_block - since_block => {
@@ -276,7 +269,7 @@ impl ArqInactivity {
     }
 
     // An unsolicited status was sent, or was not, at the clock's block.
-    pub fn unsolicited_at(self, res: StatusResult) -> (Self, InactivityAction)
+    pub fn unsolicited_at(mut self, res: StatusResult) -> (Self, InactivityAction)
         ensures { result ≡ unsolicited_at res self }
     {
         if !self.unsolicited_pending {
@@ -284,12 +277,9 @@ impl ArqInactivity {
         }
         match res {
             StatusResult::Sent => {
-                let told = ArqInactivity {
-                    state: self.state.sent(self.last_block),
-                    unsolicited_pending: false,
-                    ..self
-                };
-                (told, InactivityAction::None)
+                self.state = self.state.sent(self.last_block);
+                self.unsolicited_pending = false;
+                (self, InactivityAction::None)
             }
             StatusResult::Failed => (self.renew(), InactivityAction::Terminate),
         }
