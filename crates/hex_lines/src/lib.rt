@@ -1,10 +1,11 @@
 // Octets in lower-case hex, 32 to a line.
 #![tactic(auto)]
 
-ghost use Rattle.std.specs.Prelude.{◌≡◌, ◌++◌, ◌+◌, ◌*◌, ◌≤◌, length};
+ghost use Rattle.std.specs.Prelude.{◌≡◌, ◌++◌, ◌+◌, ◌*◌, ◌≤◌, length, OnOk};
 ghost use Rattle.arrayvec.specs.ArrayVec.{array_vec_len};
 ghost use Rattle.hex.specs.Hex.{encode_lower};
 ghost use Rattle.hex_lines.specs.Hex.{text_of};
+ghost use Rattle.hex_lines.specs.Replay.{Replays};
 
 use arrayvec::ArrayVec;
 use std::io;
@@ -43,6 +44,7 @@ pub fn replay<R: Read, W: Write, F: FnOnce(&[u8], &mut [u8]) -> usize>(
 ) -> io::Result<()>
     requires callable { F.IsAlwaysCallable run }
     requires inside { (script : _) (answers : _) (count : _) (after : _) → F.post run script answers count after → count ≤ length answers.now }
+    ensures { OnOk result (Replays (F.post run) (R.remaining source.old) (R.remaining source.new) (W.contents output.old) (W.contents output.new)) }
 {
     let mut room = [0u8; 65537];
     let (script, _) = reading::fill(source, &mut room);

@@ -3,7 +3,7 @@
 
 pub mod operands;
 
-ghost use Rattle.std.specs.Prelude.{◌≡◌, length};
+ghost use Rattle.std.specs.Prelude.{◌≡◌, length, replicate};
 
 use arq::ArqFrame;
 use script_wire::run::{Machine, Operation, Unknown, put};
@@ -93,7 +93,10 @@ pub struct Message {
 }
 
 impl Message {
-    pub fn new() -> Message {
+    // Of zeros.
+    pub fn new() -> Message
+        ensures { result.octets ≡ replicate 304 0 }
+    {
         Message { octets: [0; 304] }
     }
 

@@ -66,6 +66,7 @@ fn kind(operands: &mut Operands<'_>) -> Result<FrameKind, Refused>
 
 pub fn frame(operands: &mut Operands<'_>) -> Result<ArqFrame, Refused>
     requires { 36 ≤ length operands.old }
+    ensures { OnOk result (length operands.old ≡ length operands.new + 36) }
 {
     Ok(ArqFrame {
         kind: kind(operands)?,

@@ -12,7 +12,7 @@ pub fn flags_octet(flags: HeaderFlags) -> u8 {
         | u8::from(flags.reservation_response)
 }
 
-pub fn header_a(mut operands: Operands<'_>) -> Answer<3>
+pub(crate) fn header_a(mut operands: Operands<'_>) -> Answer<3>
     requires { length operands ≡ 15 }
 {
     let offset = usize::from(operands.octet());
@@ -27,7 +27,7 @@ pub fn header_a(mut operands: Operands<'_>) -> Answer<3>
     ]))
 }
 
-pub fn address(mut operands: Operands<'_>) -> Answer<11>
+pub(crate) fn address(mut operands: Operands<'_>) -> Answer<11>
     requires { length operands ≡ 15 }
 {
     let offset = usize::from(operands.octet());

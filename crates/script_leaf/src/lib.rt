@@ -2,7 +2,7 @@
 #![tactic(auto)]
 
 pub mod headers;
-pub mod identities;
+mod identities;
 
 use script_wire::Operands;
 use script_wire::run::{Machine, Operation, Unknown, put};

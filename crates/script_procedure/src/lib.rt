@@ -3,7 +3,7 @@
 
 pub mod values;
 
-ghost use Rattle.std.specs.Prelude.{◌≡◌, length};
+ghost use Rattle.std.specs.Prelude.{◌≡◌, length, None};
 
 use procedure::ArqProcedure;
 use script_inactivity::{put_timer, status_result};
@@ -70,7 +70,9 @@ pub struct Procedure {
 }
 
 impl Procedure {
-    pub fn new() -> Procedure {
+    pub fn new() -> Procedure
+        ensures { result.held ≡ None }
+    {
         Procedure { held: None }
     }
 

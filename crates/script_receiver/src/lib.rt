@@ -3,7 +3,7 @@
 
 pub mod values;
 
-ghost use Rattle.std.specs.Prelude.{◌≡◌, ◌≤◌, length};
+ghost use Rattle.std.specs.Prelude.{◌≡◌, ◌≤◌, length, None};
 
 use receiver::ArqReassembler;
 use script_wire::run::{Machine, Operation, Unknown, put};
@@ -70,7 +70,9 @@ pub struct Receiver {
 }
 
 impl Receiver {
-    pub fn new() -> Receiver {
+    pub fn new() -> Receiver
+        ensures { result.held ≡ None }
+    {
         Receiver { held: None }
     }
 

@@ -1,7 +1,7 @@
 // The operations on the store of 64 octets.
 #![tactic(auto)]
 
-ghost use Rattle.std.specs.Prelude.{◌≡◌, ◌+◌, ◌≤◌, length, IfOk};
+ghost use Rattle.std.specs.Prelude.{◌≡◌, ◌+◌, ◌≤◌, length, replicate, IfOk, OnErr};
 
 use script_wire::run::{Machine, Operation, Unknown, put};
 use script_wire::{Answer, NO_CALL, Operands, Refused, Values};
@@ -72,6 +72,7 @@ fn field_at(operands: &mut Operands<'_>) -> Result<(usize, usize), Refused>
 // FILL and MESSAGE: octets 8k to 8k + 7 of the memory.
 pub fn fill(memory: &mut [u8], mut operands: Operands<'_>) -> Answer<0>
     requires { length operands ≡ 9 }
+    ensures { OnErr result (memory.new ≡ memory.old) }
 {
     let at = 8 * usize::from(operands.octet());
     if memory.len() < at + 8 {
@@ -87,7 +88,10 @@ pub struct Store {
 }
 
 impl Store {
-    pub fn new() -> Store {
+    // Of zeros.
+    pub fn new() -> Store
+        ensures { result.octets ≡ replicate 64 0 }
+    {
         Store { octets: [0; 64] }
     }
 

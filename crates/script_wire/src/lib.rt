@@ -4,7 +4,8 @@
 
 pub mod run;
 
-ghost use Rattle.std.specs.Prelude.{◌≡◌, ◌+◌, ◌≤◌, ◌<◌, length, IfOk};
+ghost use Rattle.std.specs.Prelude.{◌≡◌, ◌∷◌, [], ◌+◌, ◌%◌, ◌≤◌, ◌<◌, length, IfOk};
+ghost use Rattle.std.specs.Int.{from_bool};
 
 use arrayvec::ArrayVec;
 use rach::MobileIdentity;
@@ -18,6 +19,10 @@ pub struct Refused(pub u8);
 pub const NO_CALL: Refused = Refused(255);
 
 impl<E: Numbered> From<E> for Refused {
+    ghost use Rattle.std.specs.Prelude.{◌≡◌};
+
+    ghost from_gives = { λ error refused. refused.0 ≡ E.number_of error };
+
     fn from(error: E) -> Refused {
         Refused(error.number())
     }
@@ -175,7 +180,9 @@ impl<const N: usize> From<[u8; N]> for Values<N> {
 
 impl Values<1> {
     // One octet, 1 or 0.
-    pub fn flag(flag: bool) -> Self {
+    pub fn flag(flag: bool) -> Self
+        ensures { result ≡ from_bool flag ∷ [] }
+    {
         Values::from([u8::from(flag)])
     }
 }
@@ -238,6 +245,8 @@ pub fn keep<T: Drop, A>(held: &mut Option<T>, done: (T, A)) -> A
 }
 
 // The octet of a number that is below 256.
-pub fn low(number: usize) -> u8 {
+pub fn low(number: usize) -> u8
+    ensures { result ≡ number % 256 }
+{
     (number & 0xff) as u8
 }
