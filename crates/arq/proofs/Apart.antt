@@ -1,7 +1,5 @@
 -- The readings of answers tell any two answers apart: nothing of an answer is left free. Assumes nothing.
-use mathlib.Core.Path.{◌≡◌}
-use Prim.Native.Nat.{ℕ}
-use Rattle.std.specs.Prelude.{Result}
+use Rattle.std.proofs.Common.{◌≡◌, ℕ, Result}
 use Rattle.spach.specs.declared.SpachError.{SpachError}
 use Rattle.spach.specs.Refusal.{number_of, by_number}
 use Rattle.spach.proofs.Apart.{numbers_apart, answers_apart}

@@ -1,10 +1,5 @@
 -- The frames of a cut hold the message's bits, in as few Continues as there can be. Assumes nothing.
-use mathlib.Core.Path.{◌≡◌, sym, ap, ap₂, ◌∙◌}
-use mathlib.Core.Bool.{Bool}
-use mathlib.Core.List.{List, ◌++◌}
-use Prim.Native.Nat.{ℕ, suc, ◌+◌, ◌*◌, ◌≤◌, ◌<◌, min}
-use native.Mathlib.Omega.{arith}
-use lib.ListN.{length, take, drop, length-take}
+use Rattle.std.proofs.Common.{◌≡◌, ℕ, suc, ◌+◌, ◌*◌, ◌<◌, ◌≤◌, min, Bool, List, ◌++◌, length, take, drop, sym, ap, ◌∙◌, ap₂, arith, length-take}
 use Rattle.field.specs.Bits.{Octets, bits_of, octets}
 use Rattle.field.specs.Layout.{up_to}
 use Rattle.field.proofs.Laws.{length-bits_of, octets-bits_of}

@@ -1,11 +1,5 @@
 -- Where an address that was read ends, and the ways out of decode up to header A. Assumes nothing.
-use mathlib.Core.Path.{◌≡◌, sym, ap, ◌∙◌}
-use mathlib.Core.Bool.{Bool}
-use mathlib.Core.List.{List}
-use Prim.Native.Nat.{ℕ, ◌+◌, ◌≤◌}
-use native.Mathlib.Omega.{arith}
-use lib.ListN.{length}
-use borrow.Author.Tests.{eq-eqb, ne_eqb}
+use Rattle.std.proofs.Common.{◌≡◌, ℕ, ◌+◌, ◌≤◌, Bool, List, length, sym, ap, ◌∙◌, arith, eq-eqb, ne_eqb}
 use Rattle.field.specs.Bits.{bits_of, field}
 use Rattle.field.proofs.Laws.{field_lt}
 use Rattle.rach.specs.Identity.{type_of, width_of}

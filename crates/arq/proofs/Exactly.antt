@@ -1,14 +1,7 @@
 -- Encode, decode and the cut held to the words of Tables. Assumes nothing.
-use mathlib.Core.Path.{◌≡◌, refl, sym, ap, subst, ◌∙◌}
-use mathlib.Core.Bool.{Bool, true, false, cond, not, ◌||◌}
-use mathlib.Core.List.{List, [], ◌∷◌, ◌++◌}
-use Prim.Native.Nat.{ℕ, zero, suc, ◌+◌, ◌-◌, ◌*◌, ◌%◌, ◌^◌, ◌≤◌, ◌<◌, min}
-use native.Mathlib.Omega.{arith}
+use Rattle.std.proofs.Common.{◌≡◌, ℕ, zero, suc, ◌+◌, ◌-◌, ◌*◌, ◌%◌, ◌^◌, ◌<◌, ◌≤◌, min, Bool, true, false, cond, not, ◌||◌, eqb, ltb, List, [], ◌∷◌, ◌++◌, length, take, drop, sym, refl, ap, ◌∙◌, subst, arith, length-take, take-take, drop-drop, ltb-false, eqb-true}
 use native.Mathlib.Nat.{pow-le-pow_right}
-use lib.Dec.{eqb, ltb}
-use lib.ListN.{length, take, drop, length-take}
-use lib.Seq.{take-take, drop-drop}
-use borrow.Author.Tests.{eqb-true, not-false, ltb-false}
+use borrow.Author.Tests.{not-false}
 use Rattle.field.specs.Bits.{bits, value, bits_of, octets, field}
 use Rattle.field.specs.Layout.{layout, zeros, up_to, any_set}
 use Rattle.field.proofs.Laws.{bits-mod, value_lt, field_lt, length-bits_of, length-octets}

@@ -1,13 +1,6 @@
 -- Laws of the cut: its checks, and the data of its frames. Assumes nothing.
-use mathlib.Core.Path.{◌≡◌, refl, sym, ap, ◌∙◌}
-use mathlib.Core.Bool.{Bool, false, not}
-use mathlib.Core.List.{List, [], ◌∷◌}
-use Prim.Native.Nat.{ℕ, zero, suc, ◌+◌, ◌-◌, ◌*◌, ◌≤◌, ◌<◌, min}
-use native.Mathlib.Omega.{arith}
-use lib.Dec.{ltb}
-use lib.ListN.{length, take, drop, length-drop}
+use Rattle.std.proofs.Common.{◌≡◌, ℕ, zero, suc, ◌+◌, ◌-◌, ◌*◌, ◌<◌, ◌≤◌, min, Bool, false, not, ltb, List, [], ◌∷◌, length, take, drop, sym, refl, ap, ◌∙◌, arith, length-drop, le-ltb, lt-ltb}
 use lib.Seq.{take-nil, take-length}
-use borrow.Author.Tests.{lt-ltb, le-ltb}
 use Rattle.field.specs.Bits.{bits_of, octets}
 use Rattle.field.specs.Layout.{up_to}
 use Rattle.field.proofs.Laws.{length-bits_of}

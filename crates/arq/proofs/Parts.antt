@@ -1,12 +1,5 @@
 -- Decode's one page and its parts come to the same. Assumes nothing.
-use mathlib.Core.Path.{◌≡◌, refl, sym, ap, ◌∙◌}
-use mathlib.Core.Bool.{Bool, true, false, cond, not, ◌||◌}
-use mathlib.Core.List.{List}
-use Prim.Native.Nat.{ℕ, ◌+◌, ◌*◌}
-use native.Mathlib.Omega.{arith}
-use lib.Dec.{eqb}
-use lib.ListN.{length, take, drop}
-use borrow.Author.Tests.{eqb-true}
+use Rattle.std.proofs.Common.{◌≡◌, ℕ, ◌+◌, ◌*◌, Bool, true, false, cond, not, ◌||◌, eqb, List, length, take, drop, sym, refl, ap, ◌∙◌, arith, eqb-true}
 use Rattle.field.specs.Bits.{bits_of, field}
 use Rattle.field.specs.Layout.{any_set}
 use Rattle.rach.specs.Identity.{width_of, identity_of}

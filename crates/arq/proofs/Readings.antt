@@ -1,13 +1,11 @@
 -- What each word on a frame says, and that the constants of the program are those of the definitions. Assumes nothing.
-use mathlib.Core.Path.{◌≡◌, refl}
-use lib.ListN.{take}
+use Rattle.std.proofs.Common.{◌≡◌, true, false, take, refl}
 use Rattle.field.specs.Bits.{bits_of}
 use Rattle.arq.specs.declared.TheConstants.{BEGIN, CONTINUE, INFORMATION_BITS, CONTINUE_DATA_BITS}
 use Rattle.arq.specs.declared.ArqFrame.{ArqFrame}
 use Rattle.arq.specs.declared.FrameKind.TheVariants.{Begin, Continue}
 use Rattle.arq.specs.Frame.{begin_data_lem, continue_data_lem, mode_of, kind_of, information_bits, continue_data_bits, blank_header}
 use Rattle.arq.specs.Encode.{by_kind}
-use mathlib.Core.Bool.{true, false}
 use Rattle.spach.specs.declared.Channel.TheVariants.{Arch}
 use Rattle.arq.specs.declared.ResponseMode.TheVariants.{Contention, Reservation}
 use Rattle.arq.specs.Decode.{mode_at}

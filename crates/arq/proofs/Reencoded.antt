@@ -1,14 +1,6 @@
 -- What decode accepts is encoded to the same octets. Assumes nothing.
-use mathlib.Core.Path.{◌≡◌, refl, sym, ap, ap₂, ◌∙◌}
-use mathlib.Core.Bool.{Bool, true, false, cond, not}
-use mathlib.Core.List.{List, [], ◌∷◌, ◌++◌, append_assoc}
-use Prim.Native.Nat.{ℕ, zero, suc, ◌+◌, ◌-◌, ◌*◌, ◌^◌, ◌≤◌, ◌<◌}
-use native.Mathlib.Nat.{add_assoc}
-use native.Mathlib.Omega.{arith}
-use lib.Dec.{eqb, ltb}
-use lib.ListN.{length, take, drop, length-append, length-drop}
-use lib.Seq.{take_all}
-use borrow.Author.Tests.{eqb-true, not-false, ltb-false}
+use Rattle.std.proofs.Common.{◌≡◌, ℕ, zero, suc, ◌+◌, ◌-◌, ◌*◌, ◌^◌, ◌<◌, ◌≤◌, Bool, true, false, cond, not, eqb, ltb, List, [], ◌∷◌, ◌++◌, length, take, drop, sym, refl, ap, ◌∙◌, ap₂, append_assoc, add_assoc, arith, length-append, length-drop, take_all, ltb-false, eqb-true}
+use borrow.Author.Tests.{not-false}
 use Rattle.field.specs.Bits.{Octets, bit, bits, value, bits_of, octets, field, put}
 use Rattle.field.specs.Layout.{layout, zeros, up_to, any_set}
 use Rattle.field.proofs.Laws.{field_lt, length-field, length-put, put-field, run_and_rest, value_inj, length-bits_of, octets-bits_of}

@@ -1,13 +1,6 @@
 -- Frames encoded and decoded again, and the frames of a cut among them. Assumes nothing.
-use mathlib.Core.Path.{◌≡◌, ◌∙◌}
-use mathlib.Core.Bool.{Bool, true, false, not}
-use mathlib.Core.List.{List, ◌++◌}
-use Prim.Native.Nat.{ℕ, zero, suc, ◌+◌, ◌*◌, ◌%◌, ◌^◌, ◌≤◌, ◌<◌, min}
-use native.Mathlib.Nat.{mod-eq_of_lt}
-use native.Mathlib.Omega.{arith}
-use lib.Dec.{eqb, ltb}
-use lib.ListN.{length, take, drop, length-take, drop_of_length-le}
-use borrow.Author.Tests.{not-false, le-ltb, ltb-false, ltb-true}
+use Rattle.std.proofs.Common.{◌≡◌, ℕ, zero, suc, ◌+◌, ◌*◌, ◌%◌, ◌^◌, ◌<◌, ◌≤◌, min, Bool, true, false, not, eqb, ltb, List, ◌++◌, length, take, drop, ◌∙◌, mod-eq_of_lt, arith, drop_of_length-le, length-take, ltb-false, ltb-true, le-ltb}
+use borrow.Author.Tests.{not-false}
 use Rattle.field.specs.Bits.{bits_of}
 use Rattle.field.specs.Layout.{layout, up_to, any_set}
 use Rattle.field.proofs.Laws.{length-bits_of}

@@ -1,11 +1,7 @@
 -- 01, "Sample orders": the starred lines, and frames of the Rust that pin the layout bit by bit, settled by one test.
 -- The frames are the Rust's answers to the same messages (`oracle`, FRAME and ENCODE): every channel, flag and mode, and the
 -- top and low bits of each identity, are told apart in them. Assumes nothing.
-use mathlib.Core.Bool.{Bool, true, false, ◌&&◌}
-use mathlib.Core.List.{List, [], ◌∷◌}
-use Prim.Native.Nat.{ℕ, ◌+◌, ◌-◌, ◌^◌}
-use lib.Dec.{T, eqb}
-use lib.ListN.{replicate}
+use Rattle.std.proofs.Common.{ℕ, ◌+◌, ◌-◌, ◌^◌, Bool, true, false, ◌&&◌, T, eqb, List, [], ◌∷◌, replicate}
 use Rattle.field.specs.Bits.{bit, bits, value, bits_of, octets, field}
 use Rattle.field.specs.Layout.{layout, up_to, any_set}
 use Rattle.rach.specs.Identity.{type_of, value_of, identity_of, in_range, encodable}

@@ -2,12 +2,7 @@
 -- refusals as tables of tests and numbers, the bits of a frame as one table, what is read of a frame, and what a frame given out
 -- is. Each is said by the fields themselves, apart from the definitions that it holds; the words of refusals, bits and identities that it
 -- uses are held by laws of their own (`Readings` of spach, `Exactly` of field, `Laws` of rach). Assumes nothing.
-use mathlib.Core.Path.{◌≡◌}
-use mathlib.Core.Bool.{Bool, false, cond, not, ◌||◌}
-use mathlib.Core.List.{List, [], ◌∷◌}
-use Prim.Native.Nat.{ℕ, ◌+◌, ◌-◌, ◌*◌, ◌%◌, ◌<◌, min}
-use lib.Dec.{eqb, ltb}
-use lib.ListN.{length, take, drop, replicate}
+use Rattle.std.proofs.Common.{◌≡◌, ℕ, ◌+◌, ◌-◌, ◌*◌, ◌%◌, ◌<◌, min, Bool, false, cond, not, ◌||◌, eqb, ltb, List, [], ◌∷◌, length, take, drop, replicate}
 use Rattle.field.specs.Bits.{bit, bits_of, field}
 use Rattle.field.specs.Layout.{up_to, any_set}
 use Rattle.rach.specs.Identity.{type_of, value_of, width_of, encodable}

@@ -1,10 +1,5 @@
 -- What holds of encode, decode and the cut, beside their definitions. Assumes nothing.
-use mathlib.Core.Path.{◌≡◌}
-use mathlib.Core.Bool.{not}
-use mathlib.Core.List.{List, ◌++◌}
-use Prim.Native.Nat.{ℕ, suc, ◌+◌, ◌-◌, ◌*◌, ◌^◌, ◌≤◌, ◌<◌}
-use lib.Dec.{ltb}
-use lib.ListN.{length, take}
+use Rattle.std.proofs.Common.{◌≡◌, ℕ, suc, ◌+◌, ◌-◌, ◌*◌, ◌^◌, ◌<◌, ◌≤◌, not, ltb, List, ◌++◌, length, take}
 use Rattle.field.specs.Bits.{Octets, bits_of, octets, field, put}
 use Rattle.field.specs.Layout.{layout, zeros, up_to}
 use Rattle.rach.specs.Identity.{type_of, width_of}

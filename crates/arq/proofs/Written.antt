@@ -1,10 +1,6 @@
 -- The parts of a frame, written one after the other over zeros, are the frame. Assumes nothing.
-use mathlib.Core.Path.{◌≡◌, refl, sym, ap, ◌∙◌}
-use mathlib.Core.Bool.{Bool, true, false}
-use mathlib.Core.List.{List, [], ◌∷◌, ◌++◌, append-nil}
-use Prim.Native.Nat.{ℕ, zero, suc, ◌+◌, ◌*◌, ◌%◌, ◌^◌, ◌≤◌}
-use native.Mathlib.Omega.{arith}
-use lib.ListN.{length, replicate, take, length-append, length-take, replicate-append-replicate}
+use Rattle.std.proofs.Common.{◌≡◌, ℕ, zero, suc, ◌+◌, ◌*◌, ◌%◌, ◌^◌, ◌≤◌, Bool, true, false, List, [], ◌∷◌, ◌++◌, length, take, replicate, sym, refl, ap, ◌∙◌, append-nil, arith, length-append, length-take}
+use lib.ListN.{replicate-append-replicate}
 use Rattle.std.specs.Int.{from_bool}
 use Rattle.field.specs.Bits.{bit, bits, value, bits_of, octets, put, splice}
 use Rattle.field.specs.Layout.{layout, up_to, zeros}

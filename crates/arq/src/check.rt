@@ -41,7 +41,7 @@ pub fn filler_set(octets: &[u8], o: usize, n: usize, end: usize) -> bool
     end < n && field::any_set(octets, o + end, n - end)
 }
 
-// Identity 2; bit count over the room 13; filler 7.
+// Identity 2; bit count over the room 13; filler 7. A Continue has other fields, and other checks.
 fn check_begin(frame: ArqFrame) -> Result<(), SpachError>
     ensures { by_number number_of result ≡ begin_checked frame (gives tt) }
 {

@@ -20,7 +20,7 @@ const BEGIN: u64 = 5;
 
 const CONTINUE: u64 = 6;
 
-const INFORMATION_BITS: usize = 109;
+pub const INFORMATION_BITS: usize = 109;
 
 pub const CONTINUE_DATA_BITS: usize = 79;
 
@@ -46,7 +46,7 @@ pub enum FrameKind {
 }
 
 impl FrameKind {
-    // Header B's kind.
+    // Header B's kind, the standard's number. Contracts read no `as` of an enum, so it is a match.
     pub fn number(self) -> u64
         ensures { result ≡ kind_of self }
     {
@@ -57,7 +57,7 @@ impl FrameKind {
     }
 }
 
-// A frame of either kind. Only the fields of its kind are read.
+// A frame of either kind, in 01's form and the Rust's. Only the fields of its kind are read.
 #[derive(Clone, Copy, Debug, PartialEq, Eq)]
 pub struct ArqFrame {
     pub kind: FrameKind,
@@ -71,7 +71,7 @@ pub struct ArqFrame {
     pub continue_data: [u8; 10],
 }
 
-// 109 bits, first bit at the top of the first octet; the last three bits are padding.
+// 109 bits, first bit at the top of the first octet; the last three bits are padding. 01's form.
 #[derive(Clone, Copy, Debug, PartialEq, Eq)]
 pub struct PackedFrame {
     pub octets: [u8; 14],

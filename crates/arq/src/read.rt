@@ -14,6 +14,7 @@ use super::{
 };
 use spach::{Address, Channel, HeaderA, HeaderFlags, Reader, SpachError};
 
+// What the standard's bit says. A field that was read is a number, and every number says one: so it is no `TryFrom`.
 fn mode_of(bit: u64) -> ResponseMode
     ensures { result ≡ mode_at (not (eqb bit 0)) }
 {

@@ -11,6 +11,7 @@ use super::{ArqFrame, ArqHeader, CONTINUE_DATA_BITS, FrameKind, ResponseMode};
 use rach::MobileIdentity;
 use spach::{Channel, HeaderFlags};
 
+// The standard's bit. Contracts read no `as` of an enum, so it is a match.
 fn mode(m: ResponseMode) -> u64
     ensures exact { result ≡ mode_of m }
     ensures bit { result < 2 }

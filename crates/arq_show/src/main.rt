@@ -3,5 +3,5 @@
 
 fn main(rt: HostRuntime) {
     // The listing says itself where it could not be read on; whoever takes it misses what could not be written.
-    let _ = listing::show::show(&mut rt.stdin(), &mut rt.stdout(), u64::MAX);
+    let _ = listing::show::show_told(&mut rt.stdin(), &mut rt.stdout(), u64::MAX);
 }

@@ -1,11 +1,5 @@
 -- What bits, fields and layouts are, line by line and by plain numbers: the laws of all crates rest on these definitions. Assumes nothing.
-use mathlib.Core.Path.{◌≡◌, refl}
-use mathlib.Core.Logic.{◌↔◌}
-use mathlib.Core.Bool.{Bool, true, false, true≢false}
-use mathlib.Core.List.{List, [], ◌∷◌, ◌++◌}
-use Prim.Native.Nat.{ℕ, zero, suc, ◌+◌, ◌*◌, ◌/◌, ◌%◌, ◌^◌, ◌<◌}
-use lib.Dec.{eqb}
-use lib.ListN.{length, take, drop, get_or}
+use Rattle.std.proofs.Common.{◌≡◌, ℕ, zero, suc, ◌+◌, ◌*◌, ◌/◌, ◌%◌, ◌^◌, ◌<◌, Bool, true, false, eqb, ◌↔◌, List, [], ◌∷◌, ◌++◌, length, get_or, take, drop, refl, true≢false}
 use Rattle.field.specs.Bits.{bits, value, Octets, bits_of, octets, field, put, splice}
 use Rattle.field.specs.Layout.{layout, up_to, joined, any_set, FromFields, reading}
 

@@ -1,16 +1,11 @@
 -- Fields put into bits: one after another, into an octet, into a part. And what a run of octets with a field put into it is as a number.
 -- Assumes nothing.
-use mathlib.Core.Path.{◌≡◌, refl, sym, ap, ap₂, ◌∙◌}
-use mathlib.Core.Bool.{Bool}
-use mathlib.Core.List.{List, [], ◌∷◌, ◌++◌, append-nil, append_assoc}
-use Prim.Native.Nat.{min, ℕ, zero, suc, ◌+◌, ◌-◌, ◌*◌, ◌/◌, ◌%◌, ◌^◌, ◌≤◌, ◌<◌}
-use native.Mathlib.Nat.{add-suc, pow-suc, div-one, zero-add, zero-min, min-zero, suc-min-suc, add-zero, add_assoc, mod-eq_of_lt, mod-lt, lt_of_le_of_lt}
-use native.Mathlib.Omega.{arith}
+use Rattle.std.proofs.Common.{◌≡◌, ℕ, zero, suc, ◌+◌, ◌-◌, ◌*◌, ◌/◌, ◌%◌, ◌^◌, ◌<◌, ◌≤◌, min, Bool, List, [], ◌∷◌, ◌++◌, length, take, drop, bit_and, sym, refl, ap, ◌∙◌, ap₂, append_assoc, append-nil, lt_of_le_of_lt, add-zero, add_assoc, add-suc, mod-lt, mod-eq_of_lt, pow-suc, zero-add, div-one, arith, length-append, length-drop, take-append-drop, length-take, take-take, drop-drop, take_at, take-add, pow_pos, pow-add, shl_exact, shr-shr, shr_lt}
+use native.Mathlib.Nat.{zero-min, min-zero, suc-min-suc}
 use lib.Arith.{digits_lt}
-use lib.Pow.{pow_pos, pow-add, shr-shr, shr_lt, shl_exact, high, low, split}
-use lib.Bits.{bit_and, and_mask}
-use lib.ListN.{length, take, drop, length-append, length-take, length-drop, take-append-drop}
-use lib.Seq.{take-nil, take-length, take_at, drop-append-add, drop-append-le, drop-drop, take-add, take-take}
+use lib.Pow.{high, low, split}
+use lib.Bits.{and_mask}
+use lib.Seq.{take-nil, take-length, drop-append-add, drop-append-le}
 use Rattle.std.specs.Int.{byte_at, bytes_high_first}
 use borrow.Rule.Slice.PartMut.{put_mid}
 use Rattle.field.specs.Bits.{bits, value, bits_of, field, put, splice}

@@ -1,13 +1,8 @@
 -- Laws of bits that are set. Assumes nothing.
-use mathlib.Core.Path.{◌≡◌, refl, sym, ap, ◌∙◌}
-use mathlib.Core.Bool.{Bool, true, false, ◌||◌, or_assoc, or-true}
-use mathlib.Core.List.{List, [], ◌∷◌, ◌++◌}
-use Prim.Native.Nat.{ℕ, zero, suc, ◌+◌, ◌-◌, ◌≤◌}
+use Rattle.std.proofs.Common.{◌≡◌, ℕ, zero, suc, ◌+◌, ◌-◌, ◌≤◌, Bool, true, false, ◌||◌, List, [], ◌∷◌, ◌++◌, length, take, drop, sym, refl, ap, ◌∙◌, arith, drop_of_length-le, drop-drop, take-add, pow_pos}
+use mathlib.Core.Bool.{or_assoc, or-true}
 use native.Mathlib.Nat.{sub-zero, zero-sub, suc-sub-suc}
-use native.Mathlib.Omega.{arith}
-use lib.Pow.{pow_pos}
-use lib.ListN.{length, take, drop, drop_of_length-le}
-use lib.Seq.{take-add, take-nil, drop-drop}
+use lib.Seq.{take-nil}
 use Rattle.field.specs.Bits.{value, field}
 use Rattle.field.specs.Layout.{any_set, zeros}
 

@@ -1,18 +1,10 @@
 -- A run of octets as one number, and what shifts, masks and `|` do to such numbers. Assumes nothing.
-use mathlib.Core.Path.{◌≡◌, refl, sym, ap, ap₂, ◌∙◌}
-use mathlib.Core.Bool.{Bool}
-use mathlib.Core.List.{List, [], ◌∷◌, ◌++◌, append-nil}
-use Prim.Native.Nat.{min, ℕ, suc, ◌+◌, ◌-◌, ◌*◌, ◌/◌, ◌%◌, ◌^◌, ◌≤◌, ◌<◌}
-use native.Mathlib.Nat.{one-mul, mod-eq_of_lt, lt_of_lt_of_le}
-use native.Mathlib.Omega.{arith}
+use Rattle.std.proofs.Common.{◌≡◌, ℕ, suc, ◌+◌, ◌-◌, ◌*◌, ◌/◌, ◌%◌, ◌^◌, ◌<◌, ◌≤◌, min, Bool, List, [], ◌∷◌, ◌++◌, length, get_or, take, drop, bit_and, bit_or, fold, sym, refl, ap, ◌∙◌, ap₂, append-nil, lt_of_lt_of_le, mod-eq_of_lt, one-mul, arith, length-drop, take-append-drop, length-take, get_or-drop, take-suc, drop-drop, pow_pos, pow_mono, pow-add, shl_exact, w64}
 use lib.Arith.{digits_lt}
-use lib.Pow.{pow-lt, pow-add, pow_pos, pow_mono, shl_exact}
-use lib.Bits.{bit_and, bit_or, or_shifted, and_mask}
-use lib.ListN.{length, take, drop, get_or, length-take, length-drop, take-append-drop}
-use lib.Seq.{drop-drop, take-suc, take-length, get_or-drop}
-use Rattle.std.specs.Prelude.{fold}
+use lib.Pow.{pow-lt}
+use lib.Bits.{or_shifted, and_mask}
+use lib.Seq.{take-length}
 use Rattle.std.specs.Int.{from_be_bytes}
-use mir.Syntax.{w64}
 use Rattle.field.specs.Bits.{Octets, bits, value, bits_of, field}
 use Rattle.field.specs.Spans.{Placed}
 use Rattle.field.proofs.Laws.{bits_of-take, bits_of-drop, length-field, field-value, field-left, length-bits, value-append, value-bits_lt, bits_of-append, length-bits_of}

@@ -1,6 +1,5 @@
 -- The readings of the timer's answers tell any two answers apart: answer, and the timer beside it. Assumes nothing.
-use mathlib.Core.Path.{◌≡◌}
-use Rattle.std.specs.Prelude.{Result}
+use Rattle.std.proofs.Common.{◌≡◌, Result}
 use Rattle.spach.specs.declared.SpachError.{SpachError}
 use Rattle.spach.specs.Refusal.{number_of, left}
 use Rattle.spach.proofs.Apart.{numbers_apart, left_apart}

@@ -1,9 +1,5 @@
 -- What a call of the timer that may be refused lets through. Assumes nothing.
-use mathlib.Core.Path.{◌≡◌, sym, subst}
-use mathlib.Core.Bool.{false}
-use Prim.Native.Nat.{ℕ, ◌≤◌}
-use lib.Dec.{ltb}
-use borrow.Author.Tests.{ltb-false}
+use Rattle.std.proofs.Common.{◌≡◌, ℕ, ◌≤◌, false, ltb, sym, subst, ltb-false}
 use Rattle.token.specs.Token.{fewer_than}
 use Rattle.spach.specs.Refusal.{gives}
 use Rattle.spach.proofs.Outcomes.{passed, then-gives}

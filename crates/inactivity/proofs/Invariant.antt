@@ -1,8 +1,5 @@
 -- Each definition of a call keeps the invariant; that the code does is the invariant of its type. Assumes nothing.
-use mathlib.Core.Path.{◌≡◌, refl, sym, subst}
-use mathlib.Core.Bool.{Bool, true, false, cond, not, ◌&&◌}
-use Prim.Native.Nat.{ℕ, ◌≤◌}
-use native.Mathlib.Omega.{arith}
+use Rattle.std.proofs.Common.{◌≡◌, ℕ, ◌≤◌, Bool, true, false, cond, not, ◌&&◌, sym, refl, subst, arith}
 use Rattle.spach.specs.Refusal.{gives, After, onward}
 use Rattle.inactivity.specs.declared.TransactionToken.{TransactionToken}
 use Rattle.inactivity.specs.declared.InactivityAction.{InactivityAction}

@@ -1,12 +1,7 @@
 -- Each call of the timer on every state: its answer, and all five fields afterwards, said by the fields themselves. A definition that is
 -- changed, and its code alike, meets these no more. Assumes nothing.
-use mathlib.Core.Path.{◌≡◌, refl, ap, ◌∙◌}
-use mathlib.Core.Logic.{◌↔◌}
-use mathlib.Core.Bool.{Bool, true, false, cond, not, ◌&&◌}
-use Prim.Native.Nat.{ℕ, ◌+◌, ◌-◌, ◌≤◌, ◌<◌}
-use native.Mathlib.Omega.{arith}
-use lib.Dec.{leb}
-use borrow.Author.Tests.{lt-ltb, le-ltb, lt-leb, le-leb, eqb-true, eq-eqb, ne_eqb}
+use Rattle.std.proofs.Common.{◌≡◌, ℕ, ◌+◌, ◌-◌, ◌<◌, ◌≤◌, Bool, true, false, cond, not, ◌&&◌, leb, ◌↔◌, refl, ap, ◌∙◌, arith, le-ltb, lt-ltb, eq-eqb, ne_eqb, eqb-true, le-leb}
+use borrow.Author.Tests.{lt-leb}
 use Rattle.token.specs.Token.{number_after, fewer_than}
 use Rattle.spach.specs.Refusal.{gives, refuses, After, onward}
 use Rattle.inactivity.specs.declared.TransactionToken.{TransactionToken}

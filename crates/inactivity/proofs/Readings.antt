@@ -1,7 +1,6 @@
 -- What the refusals' numbers are, and the states after a status was sent. What an answer says is spach's `by_number-says` and
 -- `left-says`. Assumes nothing.
-use mathlib.Core.Path.{◌≡◌, refl}
-use Prim.Native.Nat.{ℕ}
+use Rattle.std.proofs.Common.{◌≡◌, ℕ, refl}
 use Rattle.spach.specs.declared.SpachError.{SpachError}
 use Rattle.spach.specs.Refusal.{number_of}
 use Rattle.inactivity.specs.declared.InactivityError.TheVariants.{ClockBackwards}

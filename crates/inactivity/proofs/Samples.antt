@@ -1,8 +1,6 @@
 -- 01's lines on 31 and 32 blocks, the last four tokens, and each state that a life goes through, computed on the definitions. Assumes
 -- nothing.
-use mathlib.Core.Path.{◌≡◌, refl}
-use mathlib.Core.Bool.{true, false}
-use Prim.Native.Nat.{ℕ, ◌-◌}
+use Rattle.std.proofs.Common.{◌≡◌, ℕ, ◌-◌, true, false, refl}
 use Rattle.token.specs.Token.{stop}
 use Rattle.spach.specs.Refusal.{gives, refuses}
 use Rattle.inactivity.specs.declared.InactivityAction.TheVariants.{None, RequestUnsolicitedStatus, Terminate}

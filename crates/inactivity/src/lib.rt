@@ -19,6 +19,7 @@ const INACTIVITY_BLOCKS: u64 = 32;
 #[derive(Clone, Copy, Debug, PartialEq, Eq)]
 pub struct TransactionToken(pub u64);
 
+// The Rust's own, as 01 has it.
 #[derive(Clone, Copy, Debug, PartialEq, Eq)]
 pub enum InactivityAction {
     None,
@@ -136,7 +137,7 @@ impl Model for ArqInactivity {
     ghost inverse = { λ t. record { state = t.state; last_block = t.last_block; unsolicited_pending = t.unsolicited_pending; transaction = t.transaction; next_token = t.next_token } };
 }
 
-// What a call leaves: a refusal leaves the state as it was.
+// What a call leaves: a refusal leaves the state as it was. (A match: the state goes into both arms.)
 pub fn onward<S: Copy, A, E>(state: S, call: Result<(S, A), E>) -> (S, Result<A, E>)
     ensures ok { IfOk call (λ t. result ≡ (t.0, Ok (t.1))) }
     ensures err { IfErr call (λ e. result ≡ (state, Err e)) }

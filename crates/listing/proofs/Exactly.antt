@@ -1,10 +1,9 @@
 -- The lines of a listing over all inputs: numbers and octets as text, each field of a line, and what is counted. They are said
 -- by plain numbers (ASCII), over the library's decimals and digits and demand 3's run; a definition that is changed, and its
 -- code alike, meets these no more. Assumes nothing.
-use Rattle.std.proofs.Common.{Option, None, Some, ◌≡◌, ℕ, suc, ◌+◌, ◌/◌, ◌%◌, ◌^◌, ◌≤◌, ◌<◌, List, [], ◌∷◌, ◌++◌, length, take, drop, replicate, refl, ap, ap₂, ◌∙◌, arith, append-nil}
+use Rattle.std.proofs.Common.{◌≡◌, ℕ, suc, ◌+◌, ◌/◌, ◌%◌, ◌^◌, ◌<◌, ◌≤◌, List, [], ◌∷◌, ◌++◌, length, take, drop, replicate, Some, None, Option, refl, ap, ◌∙◌, ap₂, append-nil, arith, le-ltb, lt-ltb}
 use Rattle.std.specs.Fmt.{decimal}
 use Rattle.std.proofs.lemmas.Fmt.{decimal_digit, decimal_step}
-use borrow.Author.Tests.{lt-ltb, le-ltb}
 use Rattle.io.specs.Digits.{last_digits, hex_digit_ascii}
 use Rattle.hex.specs.Hex.{encode_with, encode_lower}
 use Rattle.field.specs.Bits.{bits, bits_of, field}

@@ -1,9 +1,11 @@
 -- Laws on the identity at the front of an input. Assumes nothing.
-use Rattle.std.proofs.Common.{◌≡◌, ℕ, ◌+◌, ◌*◌, ◌≤◌, Bool, true, false, List, ◌++◌, length, take, drop, get_or, ltb, sym, ap, ◌∙◌, arith, inl, inr}
-use Rattle.std.proofs.Math.Seq.{take-add, drop-drop}
+use Rattle.std.proofs.Common.{◌≡◌, ℕ, ◌≤◌, Bool, true, false, List, length, take, drop, get_or, ltb, ap, ◌∙◌, arith, inl, inr, length-drop, length-take-le, get_or-take, ◌+◌, w64}
 use Rattle.std.proofs.lemmas.Bool.{cases_lt}
-use Rattle.field.specs.Bits.{value, bits_of, field}
-use Rattle.field.proofs.Laws.{value-append, length-bits_of, length-field}
+use Rattle.std.proofs.lemmas.Grind.{get_or_after_one}
+use Rattle.std.proofs.lemmas.List.{get_or_past}
+use Rattle.std.specs.Int.{from_be_bytes}
+use Rattle.field.specs.Bits.{Octets, value, bits_of, field}
+use Rattle.field.proofs.Window.{be-value, window-bits}
 use Rattle.rach.specs.declared.MobileIdentity.{MobileIdentity}
 use Rattle.spach.specs.Refusal.{Outcome, gives, refuses, refuse, and_then}
 use Rattle.spach.specs.Identity.{accept_identity}
@@ -14,16 +16,20 @@ use Rattle.receiver.proofs.Valid.{valid_new}
 use Rattle.listing.specs.Session.{open_of}
 use Rattle.listing.proofs.Exactly.{open_short}
 
--- eight octets are two halves of four
-pub halves : (xs : List ℕ) → 9 ≤ length xs → field 8 32 (bits_of xs) * 4294967296 + field 40 32 (bits_of xs) ≡ field 8 64 (bits_of xs)
+-- octets 1 to 8 as one number
+pub eight : (xs : List ℕ) → 9 ≤ length xs → Octets xs → from_be_bytes w64 (take 8 (drop 1 xs)) ≡ field 8 64 (bits_of xs)
 unfolding field
-halves xs h =
-    let bs = bits_of xs in
-    let n : length (take 32 (drop 40 bs)) ≡ 32 = length-field 40 32 bs (omega (arith, length-bits_of xs)) in
-    let e = sym (value-append (take 32 (drop 8 bs)) (take 32 (drop 40 bs))) in
-    (rw n at e)
-    ∙ ap (λ l. value (take 32 (drop 8 bs) ++ take 32 l)) (sym (drop-drop 32 8 bs))
-    ∙ ap value (sym (take-add 32 32 (drop 8 bs)))
+eight xs h o = be-value (take 8 (drop 1 xs)) all part ∙ ap value (window-bits xs 1 8)
+  where
+    all : length (take 8 (drop 1 xs)) ≡ 8
+    all = length-take-le 8 (drop 1 xs) (omega (arith, length-drop 1 xs))
+
+    part : Octets (take 8 (drop 1 xs))
+    part i =
+        elim (cases_lt i 8) [
+          | inl lt ↦ omega (arith, get_or-take 8 (drop 1 xs) i 0 lt, get_or_after_one xs i 0, o (1 + i))
+          | inr past ↦ omega (arith, get_or_past (take 8 (drop 1 xs)) i 0 (omega (arith, all, past)))
+        ]
 
 -- ---- an accepted identity makes a valid state
 

@@ -31,18 +31,15 @@ pub struct Session {
 
 // The identity's value: octets 1 to 8, the upper first.
 fn value_of(octets: &[u8]) -> u64
-    requires enough { 9 ≤ length octets.now }
-    requires placed { length octets.now ≤ 4096 }
+    requires { 9 ≤ length octets.now }
     ensures { result ≡ field 8 64 (bits_of octets.now) }
 {
-    let high = field::read_field(octets, 8, 32);
-    high * 4294967296 + field::read_field(octets, 40, 32)
+    u64::from_be_bytes(<[u8; 8]>::try_from(&octets[1..9]).unwrap())
 }
 
 // A receiver for the identity in nine octets, type and value; a refusal 2 where they are fewer or no identity.
 #[tactic(auto, unfolding(crate::specs::Session::open_of))]
 pub fn open(octets: &[u8]) -> Result<ArqReassembler, SpachError>
-    requires { length octets.now ≤ 4096 }
     ensures { by_number number_of result ≡ open_of octets.now }
 {
     if octets.len() < 9 {

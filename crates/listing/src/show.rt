@@ -11,7 +11,8 @@ use receiver::ArqReassembler;
 use std::io;
 use std::io::{Read, Write};
 
-// Reads until the room is full, `left` octets are read, the input ends or a read fails.
+// Reads until the room is full, `left` octets are read, the input ends or a read fails. Callers count what is left, which they
+// answer; std's `take` holds the input while it counts.
 fn read_some<'a, R: Read>(
     input: &mut R,
     room: &'a mut [u8],
@@ -33,7 +34,7 @@ fn say_failed<W: Write>(output: &mut W) {
 }
 
 // Prints the lines after the first, of 64 frames at a time. A listing that could not be read to its end says so in place of
-// its last lines; a write that fails is passed over until then.
+// its last lines; a write that fails is passed over until then. The loop ends in its middle, where a chunk is not full.
 fn show_all<R: Read, W: Write>(
     input: &mut R,
     output: &mut W,
@@ -69,7 +70,11 @@ fn show_all<R: Read, W: Write>(
 
 // Lists an input of at most `limit` octets, to its end. Answers how many of them were not read, and whether all was read
 // and printed.
-pub fn show<R: Read, W: Write>(input: &mut R, output: &mut W, limit: u64) -> (u64, io::Result<()>)
+pub fn show_told<R: Read, W: Write>(
+    input: &mut R,
+    output: &mut W,
+    limit: u64,
+) -> (u64, io::Result<()>)
     ensures reads { ReadsAll limit result.0 (R.remaining input.old) (R.remaining input.new) }
     ensures prints { OnOk result.1 (Prints listing_of limit (R.remaining input.old) (W.contents output.old) (W.contents output.new)) }
 {
@@ -86,6 +91,14 @@ pub fn show<R: Read, W: Write>(input: &mut R, output: &mut W, limit: u64) -> (u6
     let said = output.write_all(b"frame answer echo map text\n");
     let (left, listed) = show_all(input, output, receiver, left);
     (left, said.and(listed))
+}
+
+// The same for whoever can do nothing about it.
+pub fn show<R: Read, W: Write>(input: &mut R, output: &mut W, limit: u64) -> u64
+    ensures { ReadsAll limit result (R.remaining input.old) (R.remaining input.new) }
+{
+    let (left, _) = show_told(input, output, limit);
+    left
 }
 
 // Reads on and prints nothing, until `left` octets are read or the input ends.

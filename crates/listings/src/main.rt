@@ -10,7 +10,7 @@ fn list_next<R: Read, W: Write>(input: &mut R, output: &mut W) -> bool {
         return false;
     };
     let length = u16::from_be_bytes([high, low]);
-    let (left, _) = listing::show::show(input, output, u64::from(length));
+    let left = listing::show::show(input, output, u64::from(length));
     listing::show::skip(input, left);
     true
 }

@@ -1,4 +1,5 @@
-// The port as the oracle links it: one library that exports what its driver and its timing program call.
+// The port as the oracle links it: one library that exports what its driver and its timing program call. C says by a number
+// which call is timed.
 #![tactic(auto)]
 
 ghost use Rattle.std.specs.Prelude.{◌≡◌, ◌≤◌, length, drop};

@@ -1,8 +1,5 @@
 -- The readings of the procedure's answers tell any two answers apart: answer, and the procedure beside it. Assumes nothing.
-use mathlib.Core.Path.{◌≡◌, ap}
-use mathlib.Core.List.{List}
-use Prim.Native.Nat.{ℕ}
-use Rattle.std.specs.Prelude.{Result}
+use Rattle.std.proofs.Common.{◌≡◌, ℕ, List, Result, ap}
 use Rattle.spach.specs.declared.SpachError.{SpachError}
 use Rattle.spach.specs.Refusal.{number_of, by_number, left}
 use Rattle.spach.proofs.Apart.{numbers_apart, answers_apart, left_apart}

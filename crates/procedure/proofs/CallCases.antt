@@ -1,11 +1,5 @@
 -- The ways of a call through its definition, by what comes of it. Assumes nothing.
-use mathlib.Core.Path.{◌≡◌, refl, sym, ap, subst, ◌∙◌}
-use mathlib.Core.Bool.{Bool, true, false, cond, not, ◌&&◌}
-use mathlib.Core.List.{List}
-use mathlib.Core.Logic.{◌⊎◌, inl, inr}
-use Prim.Native.Nat.{ℕ, ◌≤◌}
-use lib.ListN.{length}
-use Rattle.std.specs.Prelude.{Option, Some, None, is_some}
+use Rattle.std.proofs.Common.{◌≡◌, ℕ, ◌≤◌, Bool, true, false, cond, not, ◌&&◌, ◌⊎◌, List, length, is_some, Some, None, Option, sym, refl, ap, ◌∙◌, subst, inl, inr}
 use Rattle.receiver.specs.declared.SingleMessage.{SingleMessage}
 use Rattle.receiver.specs.declared.StatusRequest.{StatusRequest}
 use Rattle.token.specs.Token.{fewer_than}

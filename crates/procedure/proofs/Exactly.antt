@@ -1,12 +1,6 @@
 -- Each call of the procedure on every state: its answer and the procedure afterwards, said by the fields themselves, over what the receiver
 -- and the timer do by their own laws. A definition that is changed, and its code alike, meets these no more. Assumes nothing.
-use mathlib.Core.Path.{◌≡◌, refl, sym, ap, ◌∙◌}
-use mathlib.Core.Bool.{Bool, true, false, cond}
-use mathlib.Core.List.{List}
-use Prim.Native.Nat.{ℕ, ◌≤◌, ◌<◌, ◌^◌}
-use lib.ListN.{length}
-use borrow.Author.Tests.{lt-ltb, le-ltb, eq-eqb, ne_eqb}
-use Rattle.std.specs.Prelude.{Option, Some, None, is_some, option_map}
+use Rattle.std.proofs.Common.{◌≡◌, ℕ, ◌^◌, ◌<◌, ◌≤◌, Bool, true, false, cond, List, length, is_some, Some, None, Option, option_map, sym, refl, ap, ◌∙◌, le-ltb, lt-ltb, eq-eqb, ne_eqb}
 use Rattle.receiver.specs.declared.SingleMessage.{SingleMessage}
 use Rattle.receiver.specs.declared.StatusRequest.{StatusRequest}
 use Rattle.token.specs.Token.{fewer_than, number_after}

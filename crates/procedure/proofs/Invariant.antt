@@ -1,12 +1,5 @@
 -- Each call of the procedure keeps the invariant. Assumes nothing.
-use mathlib.Core.Path.{◌≡◌, refl, sym, ap, subst, ◌∙◌}
-use mathlib.Core.Bool.{Bool, true, false, cond}
-use mathlib.Core.List.{List}
-use Prim.Native.Nat.{ℕ, ◌≤◌}
-use lib.Dec.{ltb}
-use lib.ListN.{length}
-use borrow.Author.Tests.{ltb-false}
-use Rattle.std.specs.Prelude.{Option, Some, None, is_some, Result, Ok}
+use Rattle.std.proofs.Common.{◌≡◌, ℕ, ◌≤◌, Bool, true, false, cond, ltb, List, length, is_some, Some, None, Ok, Option, Result, sym, refl, ap, ◌∙◌, subst, ltb-false}
 use Rattle.receiver.specs.declared.SingleMessage.{SingleMessage}
 use Rattle.receiver.specs.declared.StatusRequest.{StatusRequest}
 use Rattle.token.specs.Token.{fewer_than}

@@ -1,10 +1,5 @@
 -- `receive` as it is read and its parts come to the same. Assumes nothing.
-use mathlib.Core.Path.{◌≡◌, refl, sym, ap, ◌∙◌}
-use mathlib.Core.Bool.{Bool, true, false, cond, ◌&&◌}
-use mathlib.Core.List.{List}
-use Prim.Native.Nat.{ℕ}
-use lib.ListN.{length}
-use Rattle.std.specs.Prelude.{Option, Some, None, is_none, Result, Ok}
+use Rattle.std.proofs.Common.{◌≡◌, ℕ, Bool, true, false, cond, ◌&&◌, List, length, is_none, Some, None, Ok, Option, Result, sym, refl, ap, ◌∙◌}
 use Rattle.receiver.specs.declared.SingleMessage.{SingleMessage}
 use Rattle.receiver.specs.declared.StatusRequest.{StatusRequest}
 use Rattle.spach.specs.declared.SpachError.{SpachError}

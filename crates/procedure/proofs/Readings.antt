@@ -1,9 +1,6 @@
 -- What the reading of `receive`'s answer says: every value is told as it is. What the others say is spach's `by_number-says` and `left-says`.
 -- Assumes nothing.
-use mathlib.Core.Path.{◌≡◌, refl}
-use mathlib.Core.List.{List}
-use Prim.Native.Nat.{ℕ}
-use Rattle.std.specs.Prelude.{Result}
+use Rattle.std.proofs.Common.{◌≡◌, ℕ, List, Result, refl}
 use Rattle.spach.specs.Refusal.{by_number}
 use Rattle.inactivity.specs.declared.ProcedureError.{ProcedureError}
 use Rattle.inactivity.specs.Inactivity.{refusal_of}

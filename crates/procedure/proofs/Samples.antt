@@ -1,12 +1,7 @@
 -- A procedure's life computed on the definitions: that the statements over lists of calls are not empty, 01's lines on 31 and 32
 -- blocks, and the token numbers. Assumes nothing.
-use mathlib.Core.Path.{◌≡◌, refl}
-use mathlib.Core.Bool.{Bool, true, false}
-use mathlib.Core.List.{List, [], ◌∷◌, ◌++◌}
-use Prim.Native.Nat.{ℕ, ◌+◌, ◌-◌}
+use Rattle.std.proofs.Common.{◌≡◌, ℕ, ◌+◌, ◌-◌, Bool, true, false, List, [], ◌∷◌, ◌++◌, replicate, Some, None, Option, refl}
 use lib.Count.{ones, ones_in}
-use lib.ListN.{replicate}
-use Rattle.std.specs.Prelude.{Option, Some, None}
 use Rattle.token.specs.Token.{stop}
 use Rattle.field.specs.Bits.{bits, value, bits_of, octets, field}
 use Rattle.field.specs.Layout.{layout, up_to, any_set}

@@ -92,7 +92,7 @@ fn let_through(
     Ok(timer.tick(tdma_block)?)
 }
 
-// The timer after an accepted frame: a Begin resets it; while the message is not complete it waits from the clock's block on.
+// The timer after an accepted frame (`begin` is the Rust's `is_begin`): a Begin resets it; while the message is not complete it waits from the clock's block on.
 fn timed(begin: bool, complete: bool, timer: ArqInactivity) -> ArqInactivity
     ensures { result ≡ timed begin complete timer }
 {

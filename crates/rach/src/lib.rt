@@ -13,6 +13,7 @@ pub enum MobileIdentity {
     Imsi50(u64),
 }
 
+// The type is a number, as a Continue has it and the standard: it may be one that no identity has.
 #[derive(Clone, Copy, Debug, PartialEq, Eq)]
 pub struct IdentityParts {
     pub identity_type: u8,
@@ -40,7 +41,7 @@ pub fn in_range(value: u64, width: usize) -> bool
     value != 0 && value < 1u64 << width
 }
 
-// The identity of a type and a value that the type's width holds.
+// The identity of a type and a value that the type's width holds. It asks for that, so it is no `From`.
 pub fn identity_of(identity_type: u8, value: u64) -> MobileIdentity
     requires { value < 2 ^ width_of identity_type }
     ensures { result ≡ identity_of identity_type value }
@@ -54,7 +55,7 @@ pub fn identity_of(identity_type: u8, value: u64) -> MobileIdentity
 }
 
 impl MobileIdentity {
-    // Type, width and value.
+    // Type, width and value: the standard's table.
     pub fn parts(self) -> IdentityParts
         ensures { result ≡ parts_of self }
     {

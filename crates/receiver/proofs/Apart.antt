@@ -1,9 +1,6 @@
 -- The readings of the receiver's answers tell any two answers apart: the constructor's by `answers_apart`, and a push's. Assumes
 -- nothing.
-use mathlib.Core.Path.{◌≡◌, ap, ap₂}
-use mathlib.Core.List.{List}
-use Prim.Native.Nat.{ℕ}
-use Rattle.std.specs.Prelude.{Result}
+use Rattle.std.proofs.Common.{◌≡◌, ℕ, List, Result, ap, ap₂}
 use Rattle.spach.specs.declared.SpachError.{SpachError}
 use Rattle.spach.specs.Refusal.{number_of, by_number}
 use Rattle.spach.proofs.Apart.{numbers_apart, answers_apart}

@@ -1,12 +1,6 @@
 -- What is known of a frame that was heard, and of one that the cut gave. Assumes nothing.
-use mathlib.Core.Path.{◌≡◌, refl, sym, ap, subst, ◌∙◌}
-use mathlib.Core.Bool.{Bool, true, false, cond, not}
-use mathlib.Core.List.{List}
-use Prim.Native.Nat.{ℕ, suc, ◌+◌, ◌*◌, ◌^◌, ◌≤◌, ◌<◌}
-use native.Mathlib.Omega.{arith}
-use lib.Dec.{eqb, ltb}
-use lib.ListN.{length, take, drop}
-use borrow.Author.Tests.{eqb-true, not-false, ltb-false, ltb-true}
+use Rattle.std.proofs.Common.{◌≡◌, ℕ, suc, ◌+◌, ◌*◌, ◌^◌, ◌<◌, ◌≤◌, Bool, true, false, cond, not, eqb, ltb, List, length, take, drop, sym, refl, ap, ◌∙◌, subst, arith, ltb-false, ltb-true, eqb-true}
+use borrow.Author.Tests.{not-false}
 use Rattle.field.specs.Bits.{bits, value, bits_of, octets, field}
 use Rattle.field.specs.Layout.{up_to, any_set}
 use Rattle.field.proofs.Laws.{field_lt, length-field, length-bits_of, length-octets}

@@ -1,20 +1,9 @@
 -- What a receiver holds while it hears the frames of one cut, and how each frame keeps it so. Assumes nothing.
-use mathlib.Core.Path.{◌≡◌, refl, sym, subst, ◌∙◌}
-use mathlib.Core.Logic.{◌⊎◌, inl, inr, ⊎_elim}
-use mathlib.Core.Bool.{true, false, not}
+use Rattle.std.proofs.Common.{◌≡◌, ℕ, ◌+◌, ◌*◌, ◌^◌, ◌<◌, ◌≤◌, min, true, false, not, eqb, ◌⊎◌, List, [], ◌∷◌, ◌++◌, length, take, set, Some, sym, refl, ◌∙◌, subst, inl, inr, ⊎_elim, arith, length-set, get_or-set_other, get_or-set_same, pow_pos, eq-eqb, ne_eqb, eqb-true}
 use mathlib.Core.List.Memᴰ
-use mathlib.Core.List.{List, [], ◌∷◌, ◌++◌}
-use Prim.Native.Nat.{ℕ, ◌+◌, ◌*◌, ◌^◌, ◌≤◌, ◌<◌, min}
 use native.Mathlib.Decide.{ℕ_discrete}
-use native.Mathlib.Omega.{arith}
-use lib.Dec.{eqb}
 use lib.Count.{ones}
-use lib.Pow.{pow_pos}
-use lib.ListN.{length, take, set, length-set}
-use Rattle.std.specs.Prelude.{Some}
-use Rattle.std.proofs.Common.{get_or-set_same, get_or-set_other}
 use Rattle.std.proofs.lemmas.Bool.{cases_Bool, false_from_ne_true}
-use borrow.Author.Tests.{eq-eqb, ne_eqb, eqb-true}
 use Rattle.field.specs.Bits.{Octets, bits_of}
 use Rattle.field.specs.Layout.{up_to}
 use Rattle.rach.specs.declared.MobileIdentity.{MobileIdentity}

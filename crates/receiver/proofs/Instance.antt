@@ -1,18 +1,10 @@
 -- An instance of demand 3: a list of pushes that fits, what each answers, and a second list that hears more. Assumes nothing.
-use mathlib.Core.Path.{◌≡◌, refl, sym, ap, ◌∙◌}
-use mathlib.Core.Logic.{⊎_elim}
-use mathlib.Core.Bool.{Bool, true, false, cond, not, ◌&&◌}
+use Rattle.std.proofs.Common.{◌≡◌, ℕ, zero, suc, ◌+◌, ◌<◌, Bool, true, false, cond, not, ◌&&◌, eqb, ltb, List, [], ◌∷◌, ◌++◌, length, take, replicate, Some, None, Option, bytes_eq, sym, refl, ap, ◌∙◌, ⊎_elim, arith, lit≤, ltb-true, lt-ltb, eq-eqb}
 use mathlib.Core.List.Memᴰ
-use mathlib.Core.List.{List, [], ◌∷◌, ◌++◌, Memᴰ, Sublistᴰ}
-use Prim.Native.Nat.{ℕ, zero, suc, ◌+◌, ◌<◌}
-use native.Mathlib.Omega.{arith}
-use lib.Dec.{eqb, ltb, lit≤}
+use mathlib.Core.List.{Memᴰ, Sublistᴰ}
 use lib.Count.{ones, ones_in}
 use Rattle.std.proofs.lemmas.Bool.{and_from, cond-true}
-use lib.ListN.{length, take, replicate}
-use Rattle.std.specs.Prelude.{Option, Some, None, bytes_eq}
 use Rattle.std.specs.Option.{option_map_or}
-use borrow.Author.Tests.{eq-eqb, ltb-true, lt-ltb}
 use Rattle.field.specs.Bits.{Octets, bits, value, bits_of, octets, field}
 use Rattle.field.specs.Layout.{layout, up_to, any_set}
 use Rattle.rach.specs.Identity.{type_of, same, in_range, encodable}

@@ -1,18 +1,10 @@
 -- What 01 says of the constructor and of a push, beside demand 3: laws of the definitions. Assumes nothing.
-use mathlib.Core.Path.{◌≡◌, refl, sym, ap, ◌∙◌}
-use mathlib.Core.Logic.{◌⊎◌, inl, inr, ⊎_elim, ◌↔◌}
-use mathlib.Core.Bool.{Bool, true, false, not}
-use mathlib.Core.List.{List, ◌++◌}
-use Prim.Native.Nat.{ℕ, ◌+◌, ◌*◌, ◌^◌, ◌≤◌, ◌<◌}
-use native.Mathlib.Omega.{arith}
-use lib.Dec.{eqb, ltb}
+use Rattle.std.proofs.Common.{◌≡◌, ℕ, ◌+◌, ◌*◌, ◌^◌, ◌<◌, ◌≤◌, Bool, true, false, not, eqb, ltb, ◌⊎◌, ◌↔◌, List, ◌++◌, length, drop, replicate, is_some, IsSomeAnd, slice_set, Some, None, Option, option_map, sym, refl, ap, ◌∙◌, inl, inr, ⊎_elim, arith, ltb-false, ltb-true, eq-eqb, eqb-true}
 use lib.Count.{ones, ones_in}
 use Rattle.std.proofs.lemmas.Bool.{cases_Bool, and_from, false_from_ne_true}
-use lib.ListN.{length, drop, replicate}
-use Rattle.std.specs.Prelude.{Option, Some, None, option_map, is_some, IsSomeAnd, slice_set}
 use Rattle.std.specs.Bool.{then_some}
 use Rattle.std.specs.Option.{option_map_or}
-use borrow.Author.Tests.{not-true, not-false, eqb-true, eq-eqb, ltb-true, ltb-false}
+use borrow.Author.Tests.{not-true, not-false}
 use Rattle.rach.specs.Identity.{type_of, value_of, width_of, encodable}
 use Rattle.rach.specs.declared.MobileIdentity.{MobileIdentity}
 use Rattle.rach.proofs.Laws.{in-range, range_in, both}

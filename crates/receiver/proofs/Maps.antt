@@ -1,12 +1,9 @@
 -- Laws of the received map: which numbers are in it, and what its count of ones says. Assumes nothing.
-use mathlib.Core.Path.{◌≡◌}
-use mathlib.Core.Logic.{◌⊎◌, inl, inr, ⊎_elim}
-use Prim.Native.Nat.{ℕ, zero, suc, ◌+◌, ◌-◌, ◌*◌, ◌/◌, ◌%◌, ◌^◌, ◌<◌, max}
-use native.Mathlib.Nat.{zero-div, pow-suc, div-eq_of_lt, one-mul, mul-mod_left, pow-succ', div-div-eq-div-mul, div-one}
+use Rattle.std.proofs.Common.{◌≡◌, ℕ, zero, suc, ◌+◌, ◌-◌, ◌*◌, ◌/◌, ◌%◌, ◌^◌, ◌<◌, max, ◌⊎◌, bit_or, inl, inr, ⊎_elim, one-mul, pow-suc, div-one, arith, pow-add}
+use native.Mathlib.Nat.{zero-div, div-eq_of_lt, mul-mod_left, pow-succ', div-div-eq-div-mul}
 use native.Mathlib.Decide.{ℕ_discrete}
-use native.Mathlib.Omega.{arith}
-use lib.Bits.{bit_or, or_shr, or_step, or_lt}
-use lib.Pow.{pow-lt, pow-add, shl-shr}
+use lib.Bits.{or_shr, or_step, or_lt}
+use lib.Pow.{pow-lt, shl-shr}
 use lib.Count.{ones, ones-le, ones_step}
 use Rattle.std.proofs.lemmas.Bool.{cases_order}
 use Rattle.receiver.specs.Map.{bit_of, In, with_bit}

@@ -1,12 +1,5 @@
 -- What each reading of the receiver's answers, map and slots says: every value is told as it is. Assumes nothing.
-use mathlib.Core.Path.{◌≡◌, refl}
-use mathlib.Core.Bool.{false, true}
-use mathlib.Core.List.{List, [], ◌∷◌, ◌++◌}
-use Prim.Native.Nat.{ℕ, ◌+◌, ◌*◌, ◌/◌, ◌%◌, ◌^◌, ◌<◌}
-use lib.Bits.{bit_or}
-use lib.ListN.{length, get_or, take, replicate}
-use Rattle.std.specs.Prelude.{Option, Some, None, Result, Ok, Err, flat_map, slice_set}
-use Rattle.std.proofs.Common.{get_or-set_same, get_or-set_other}
+use Rattle.std.proofs.Common.{◌≡◌, ℕ, ◌+◌, ◌*◌, ◌/◌, ◌%◌, ◌^◌, ◌<◌, true, false, List, [], ◌∷◌, ◌++◌, length, get_or, take, replicate, slice_set, bit_or, Some, None, Ok, Err, Option, Result, flat_map, refl, get_or-set_other, get_or-set_same}
 use Rattle.field.specs.Bits.{bits_of, octets}
 use Rattle.rach.specs.declared.MobileIdentity.{MobileIdentity}
 use Rattle.spach.specs.declared.SpachError.{SpachError}

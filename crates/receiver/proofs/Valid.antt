@@ -1,16 +1,7 @@
 -- Every state that the constructor, push and reset make is valid. Assumes nothing.
-use mathlib.Core.Path.{◌≡◌, refl, sym, ap, ◌∙◌}
-use mathlib.Core.Logic.{⊎_elim}
-use mathlib.Core.Bool.{Bool, true, false, not}
-use mathlib.Core.List.{List, [], ◌∷◌}
-use Prim.Native.Nat.{ℕ, zero, suc, ◌^◌, ◌≤◌, ◌<◌}
-use native.Mathlib.Omega.{arith}
-use lib.Dec.{eqb}
+use Rattle.std.proofs.Common.{◌≡◌, ℕ, zero, suc, ◌^◌, ◌<◌, ◌≤◌, Bool, true, false, not, eqb, List, [], ◌∷◌, length, take, drop, replicate, Option, sym, refl, ap, ◌∙◌, ⊎_elim, arith, length-set, length-take, pow_pos, pow_mono, eq-eqb, eqb-true}
 use lib.Count.{ones}
-use lib.Pow.{pow_pos, pow_mono}
-use lib.ListN.{length, take, drop, replicate, length-set, length-take}
-use borrow.Author.Tests.{eq-eqb, eqb-true, not-false}
-use Rattle.std.specs.Prelude.{Option}
+use borrow.Author.Tests.{not-false}
 use Rattle.std.specs.Option.{ForSome}
 use Rattle.std.proofs.lemmas.Bool.{cases_Bool}
 use Rattle.std.proofs.lemmas.List.Elements.{All-replicate, All-set}

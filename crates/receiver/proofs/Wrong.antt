@@ -1,12 +1,8 @@
 -- Receivers that demand 3 shuts out, and what it leaves to the laws beside it. Assumes nothing.
-use mathlib.Core.Path.{◌≡◌, refl, sym, ap, subst, ◌∙◌}
-use mathlib.Core.Logic.{inl, inr}
-use mathlib.Core.Bool.{false}
-use mathlib.Core.List.{List, [], ◌∷◌, ◌++◌, cons≢nil, head-eq_of_cons-eq}
+use Rattle.std.proofs.Common.{◌≡◌, ℕ, false, List, [], ◌∷◌, ◌++◌, Some, None, Option, option_map, sym, refl, ap, ◌∙◌, subst, inl, inr}
+use mathlib.Core.List.{cons≢nil, head-eq_of_cons-eq}
 use mathlib.Core.List.Memᴰ
-use Prim.Native.Nat.{ℕ}
 use lib.Count.{ones, ones_in}
-use Rattle.std.specs.Prelude.{Option, Some, None, option_map}
 use Rattle.std.specs.Option.{ForSome}
 use Rattle.field.specs.Bits.{bits, value, bits_of, octets, field}
 use Rattle.field.specs.Layout.{layout, up_to, any_set}

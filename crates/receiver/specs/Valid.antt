@@ -1,5 +1,5 @@
--- What every state is that the constructor, push and reset make. No call of the receiver asks for it; the procedure's and the
--- listing's do. Assumes nothing.
+-- What every state is that the constructor, push and reset make. No call of the receiver asks for it; it is
+-- part of what every procedure is, and the listing's functions ask for it. Assumes nothing.
 use Rattle.std.specs.Prelude.{◌≡◌, true, ◌^◌, ◌<◌, length, All}
 use Rattle.std.specs.Option.{ForSome}
 use Rattle.field.specs.Bits.{Octets}

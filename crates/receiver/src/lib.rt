@@ -23,7 +23,7 @@ pub struct ArqReassembler {
     pub transaction: Option<Transaction>,
 }
 
-// A delivered message: its octets stand at the front of the buffer that was lent.
+// A delivered message: its octets stand at the front of the buffer that was lent, which no struct can hold. 01's form.
 #[derive(Clone, Copy, Debug, PartialEq, Eq)]
 pub struct SingleMessage {
     pub channel: Channel,
@@ -44,6 +44,7 @@ pub struct StatusRequest {
     pub response_mode: ResponseMode,
 }
 
+// The Rust's own: a frame that is no one's is no refusal.
 #[derive(Clone, Copy, Debug, PartialEq, Eq)]
 pub enum Reception {
     Ignored,

@@ -6,7 +6,8 @@ ghost use Rattle.receiver.specs.Receiver.{assembled, message_of};
 use super::{SingleMessage, Transaction};
 use rach::MobileIdentity;
 
-// The message in the first octets of 255: the Begin's data bits, then the slots', as many as it has.
+// The message in the first octets of 255: the Begin's data bits, then the slots', as many as it has. A slot's number says
+// where its bits go.
 fn assemble(identity: MobileIdentity, t: &Transaction) -> [u8; 255]
     ensures { take t.now.message_octets result ≡ assembled identity t.now }
 {

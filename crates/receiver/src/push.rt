@@ -40,7 +40,8 @@ fn finish(
     )
 }
 
-// A frame that was heard: foreign ones are Ignored, and a refusal changes nothing.
+// A frame that was heard: foreign ones are Ignored, and a refusal changes nothing. Room for 255 octets is asked for here and
+// below, and no `[u8; 255]` taken: what is said of the octets behind it is said of the whole buffer.
 #[tactic(auto, using(rach::proofs::Laws::eq_same), unfolding(crate::specs::Receiver::push_frame))]
 pub fn push_frame(
     s: ArqReassembler,

@@ -10,7 +10,8 @@ use rach::MobileIdentity;
 use spach::{Channel, HeaderFlags, SpachError};
 
 // The Begin's channel, flags and echo, its octet count and its data; the data of Continue k in slot k if bit k of the map
-// is set. Whose it is the receiver says to each method that asks: kept here too, the identity might differ from its own.
+// is set: 01's form. Whose it is the receiver says to each method that asks: kept here too, the identity might differ from
+// its own.
 #[derive(Clone, Copy, Debug, PartialEq, Eq)]
 pub struct Transaction {
     pub channel: Channel,
@@ -25,7 +26,7 @@ pub struct Transaction {
 
 impl Transaction {
     // A Begin replaces everything.
-    pub(crate) fn begun_by(frame: ArqFrame) -> Self
+    pub fn begun_by(frame: ArqFrame) -> Self
         ensures { result ≡ replaced_by frame }
     {
         let ArqFrame {
@@ -47,7 +48,7 @@ impl Transaction {
     }
 
     // How many Continues it needs.
-    pub(crate) fn needed(&self, identity: MobileIdentity) -> usize
+    pub fn needed(&self, identity: MobileIdentity) -> usize
         ensures value { result ≡ needed identity self.now }
         ensures most { result ≤ 26 }
     {
@@ -55,14 +56,14 @@ impl Transaction {
     }
 
     // Complete and not delivered yet: the map has as many ones as numbers are needed.
-    pub(crate) fn is_due(&self, identity: MobileIdentity) -> bool
+    pub fn is_due(&self, identity: MobileIdentity) -> bool
         ensures { result ≡ due identity self.now }
     {
         !self.delivered && self.received_frames.count_ones() as usize == self.needed(identity)
     }
 
     // Where Continue k's data start in the message.
-    pub(crate) fn first_bit(&self, identity: MobileIdentity, k: usize) -> usize
+    pub fn first_bit(&self, identity: MobileIdentity, k: usize) -> usize
         requires { k < 256 }
         ensures { result ≡ first_bit identity self.now k }
     {
@@ -71,7 +72,7 @@ impl Transaction {
     }
 
     // Whether a Continue is of this transaction: same echo, channel and identity type.
-    pub(crate) fn owns(&self, identity: MobileIdentity, frame: ArqFrame) -> bool
+    pub fn owns(&self, identity: MobileIdentity, frame: ArqFrame) -> bool
         ensures { result ≡ ours identity self.now frame }
     {
         frame.header.partial_echo == self.partial_echo
@@ -80,7 +81,7 @@ impl Transaction {
     }
 
     // Whether a data bit of a Continue is set past the message.
-    pub(crate) fn filler_set(&self, identity: MobileIdentity, frame: ArqFrame) -> bool
+    pub fn filler_set(&self, identity: MobileIdentity, frame: ArqFrame) -> bool
         requires { frame.frame_number < needed identity self.now }
         ensures { result ≡ filler_past identity self.now frame }
     {
@@ -90,7 +91,7 @@ impl Transaction {
     }
 
     // Whether a Continue's slot is filled with other data.
-    pub(crate) fn conflicts(&self, frame: ArqFrame) -> bool
+    pub fn conflicts(&self, frame: ArqFrame) -> bool
         requires { frame.frame_number < 26 }
         ensures { result ≡ conflicts self.now frame }
     {
@@ -101,7 +102,7 @@ impl Transaction {
     // A Continue goes into its slot and into the map. Number not below the needed count 12; filler 7; filled slot with
     // other data 14.
     #[tactic(auto, unfolding(crate::specs::Receiver::continued))]
-    pub(crate) fn continued_by(
+    pub fn continued_by(
         mut self,
         identity: MobileIdentity,
         frame: ArqFrame,
@@ -124,7 +125,7 @@ impl Transaction {
         Ok(self)
     }
 
-    pub(crate) fn status(&self) -> ArqStatus
+    pub fn status(&self) -> ArqStatus
         ensures { result ≡ status_of self.now }
     {
         ArqStatus {
@@ -134,7 +135,7 @@ impl Transaction {
     }
 
     // A polled frame asks for the status, in its own response mode.
-    pub(crate) fn status_request(&self, header: ArqHeader) -> Option<StatusRequest>
+    pub fn status_request(&self, header: ArqHeader) -> Option<StatusRequest>
         ensures { result ≡ request_of header self.now }
     {
         header.polling.then_some(StatusRequest {

@@ -33,11 +33,7 @@ pub fn response_mode(operands: &mut Operands<'_>) -> Result<ResponseMode, Refuse
     requires { 1 ≤ length operands.old }
     ensures { length operands.old ≡ length operands.new + 1 }
 {
-    Ok(if operands.flag()? {
-        ResponseMode::Reservation
-    } else {
-        ResponseMode::Contention
-    })
+    operands.either(ResponseMode::Contention, ResponseMode::Reservation)
 }
 
 pub fn header(operands: &mut Operands<'_>) -> Result<ArqHeader, Refused>
@@ -57,11 +53,7 @@ fn kind(operands: &mut Operands<'_>) -> Result<FrameKind, Refused>
     requires { 1 ≤ length operands.old }
     ensures { length operands.old ≡ length operands.new + 1 }
 {
-    Ok(if operands.flag()? {
-        FrameKind::Continue
-    } else {
-        FrameKind::Begin
-    })
+    operands.either(FrameKind::Begin, FrameKind::Continue)
 }
 
 pub fn frame(operands: &mut Operands<'_>) -> Result<ArqFrame, Refused>

@@ -11,11 +11,7 @@ fn kind(operands: &mut Operands<'_>) -> Result<StatusKind, Refused>
     requires { 1 ≤ length operands.old }
     ensures { length operands.old ≡ length operands.new + 1 }
 {
-    Ok(if operands.flag()? {
-        StatusKind::Unsolicited
-    } else {
-        StatusKind::Solicited
-    })
+    operands.either(StatusKind::Solicited, StatusKind::Unsolicited)
 }
 
 pub fn transmission(operands: &mut Operands<'_>) -> Result<StatusTransmission, Refused>

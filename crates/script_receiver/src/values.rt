@@ -1,4 +1,5 @@
-// Receptions as values of an answer: zeros for what there is not.
+// Receptions as values of an answer: zeros for what there is not. Each has values of its own, so that a method that puts them
+// or zeros, by a closure, would say no more.
 ghost use Rattle.std.specs.Prelude.{◌≡◌, ◌+◌, ◌≤◌, length};
 
 use receiver::{ArqStatus, Reception, SingleMessage, StatusRequest};

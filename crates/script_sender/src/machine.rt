@@ -55,7 +55,8 @@ where
     call(sender, &mut octets[..octets_lent], &mut words[..words_lent])
 }
 
-// The sender, if there is one, the message, the memory, and how much of it is lent.
+// The sender, if there is one, the message, the memory, and how much of it is lent: the memory stays whole, since a later LEND
+// may lend more of it.
 #[derive(Drop)]
 pub struct Lender<'a> {
     sender: Option<Sender>,

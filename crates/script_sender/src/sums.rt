@@ -103,9 +103,8 @@ fn deal(lanes: &mut [u64; 4], index: usize, word: u64) {
 
 // The octets by eight.
 fn deal_octets(lanes: &mut [u64; 4], octets: &[u8]) {
-    let mut left = Operands::new(octets);
-    for index in 0..octets.len() / 8 {
-        deal(lanes, index, left.eight());
+    for (index, eight) in octets.chunks_exact(8).enumerate() {
+        deal(lanes, index, Operands::new(eight).eight());
     }
 }
 

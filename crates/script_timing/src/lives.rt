@@ -106,11 +106,7 @@ where
         buffer: [0; 255],
         block,
     };
-    let mut sum: u64 = 0;
-    for frame in frames.chunks_exact(14) {
-        sum = sum.wrapping_add(call(&mut life, frame));
-    }
-    sum
+    sum(frames, 14, |frame| call(&mut life, frame))
 }
 
 pub fn received_frame(timer: &mut ArqInactivity, block: u64) -> u64 {

@@ -100,16 +100,23 @@ impl<'a> Operands<'a> {
         u64::from_be_bytes(self.octets())
     }
 
-    // An octet that is 0 or 1.
-    pub fn flag(&mut self) -> Result<bool, Refused>
+    // One of two, by an octet that is 0 or 1.
+    pub fn either<T: Drop>(&mut self, zero: T, one: T) -> Result<T, Refused>
         requires { 1 ≤ length self.old }
         ensures { length self.old ≡ length self.new + 1 }
     {
         match self.octet() {
-            0 => Ok(false),
-            1 => Ok(true),
+            0 => Ok(zero),
+            1 => Ok(one),
             _ => Err(NO_CALL),
         }
+    }
+
+    pub fn flag(&mut self) -> Result<bool, Refused>
+        requires { 1 ≤ length self.old }
+        ensures { length self.old ≡ length self.new + 1 }
+    {
+        self.either(false, true)
     }
 
     // The length of a message or of a buffer.

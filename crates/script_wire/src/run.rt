@@ -18,7 +18,7 @@ pub trait Operation: TryFrom<u8, Error = Unknown> + Copy {
         ensures longest { result.1 ≡ (row_of self).2 };
 }
 
-// What a script runs on.
+// What a script runs on. Each runs an operation by a match, as each has operands and an answer of its own.
 pub trait Machine {
     type Op: Operation;
 
@@ -62,7 +62,8 @@ pub fn put<const N: usize>(answers: &mut [u8], answer: Answer<N>) -> usize
     }
 }
 
-// How many octets were answered, the end octet with them; all others stay. Nothing is written to a buffer of length 0.
+// How many octets were answered, the end octet with them; all others stay. Nothing is written to a buffer of length 0. An
+// operation says how many octets it answered, and they are counted, since the number is the call's result.
 pub fn run<M: Machine>(machine: &mut M, script: &[u8], answers: &mut [u8]) -> usize
     ensures within { result ≤ length answers.old }
     ensures rest { drop result answers.new ≡ drop result answers.old }

@@ -52,7 +52,9 @@ impl Table {
         }
     }
 
-    // ---- the place of the first transfer that is sought
+    // ---- the place of the first transfer that is sought: the library's search, each with its own test
+
+    // One search for all, the test handed in, was tried: each of the nine callers then proves which definition it hands in.
 
     // Of this echo.
     pub(crate) fn place_of_echo(&self, echo: u8) -> Option<usize>

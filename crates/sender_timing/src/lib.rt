@@ -67,7 +67,9 @@ fn stranger(round: u64) -> MobileIdentity {
 
 // A status of the transfer begun, without frames.
 fn shows(live: u64, rounds: u64, store: &mut [u8], words: &mut [u64]) -> u64 {
-    let (begun, partial_echo) = cycles::begun(live, store, words);
+    let Some((begun, partial_echo)) = cycles::begun(live, store, words) else {
+        return 0;
+    };
     let status = ArqStatus {
         partial_echo,
         received_frames: 0,
@@ -83,23 +85,47 @@ pub fn time_sender(call: u8, live: u64, rounds: u64, store: &mut [u8], words: &m
     if store.len() < 32640 || words.len() < 3456 || live == 0 || 128 < live {
         return 0;
     }
-    let s = match call {
-        1 => return shows(live, rounds, store, words),
-        8 => cycles::emptied(live, store, words),
-        _ => cycles::filled(u64::from(call == 2), live, store, words),
-    };
     match call {
-        0 => times(rounds, s, |s, _| cycles::next_frame(s, live, store, words)),
-        2 => times(
+        0 => {
+            let s = cycles::full(live, store, words);
+            times(rounds, s, |s, _| cycles::next_frame(s, live, store, words))
+        }
+        1 => shows(live, rounds, store, words),
+        2 => {
+            let s = cycles::filled(1, live, store, words);
+            times(
+                rounds,
+                s,
+                |s, round| cycles::replaced(s, 1, round, store, words),
+            )
+        }
+        3 => {
+            let s = cycles::full(live, store, words);
+            times(rounds, s, |s, _| s.prepare(0, 0, store, words))
+        }
+        4 => {
+            let s = cycles::full(live, store, words);
+            times(rounds, s, |s, _| s.advance(0, 0, store, words))
+        }
+        5 => {
+            let s = cycles::full(live, store, words);
+            times(rounds, s, |s, _| s.refresh_waiting(0, 0, store, words))
+        }
+        6 => times(
             rounds,
-            s,
-            |s, round| cycles::replaced(s, 1, round, store, words),
+            cycles::full(live, store, words),
+            |s, round| s.cancel(stranger(round)),
         ),
-        3 => times(rounds, s, |s, _| s.prepare(0, 0, store, words)),
-        4 => times(rounds, s, |s, _| s.advance(0, 0, store, words)),
-        5 => times(rounds, s, |s, _| s.refresh_waiting(0, 0, store, words)),
-        6 => times(rounds, s, |s, round| s.cancel(stranger(round))),
-        7 => asks(rounds, &s, |s, round| s.contains(stranger(round))),
-        _ => asks(rounds, &s, |s, _| s.ready()),
+        7 => asks(
+            rounds,
+            &cycles::full(live, store, words),
+            |s, round| s.contains(stranger(round)),
+        ),
+        8 => asks(
+            rounds,
+            &cycles::emptied(live, store, words),
+            |s, _| s.ready(),
+        ),
+        _ => asks(rounds, &cycles::full(live, store, words), |s, _| s.ready()),
     }
 }

@@ -1,10 +1,5 @@
 -- The readings of answers tell any two answers apart: nothing of an answer is left free. Assumes nothing.
-use mathlib.Core.Path.{◌≡◌, refl, ap, ap₂}
-use mathlib.Core.Bool.{cond}
-use Prim.Native.Nat.{ℕ}
-use native.Mathlib.Omega.{arith}
-use lib.Dec.{eqb}
-use Rattle.std.specs.Prelude.{Result, Ok, Err}
+use Rattle.std.proofs.Common.{◌≡◌, ℕ, cond, eqb, Ok, Err, Result, refl, ap, ap₂, arith}
 use Rattle.spach.specs.contracts.ChannelPartialEq.TheImpl.{ghosts}
 use Rattle.spach.specs.declared.Channel.{Channel}
 use Rattle.spach.specs.declared.Channel.TheVariants.{Arch, Smsch, Pch}

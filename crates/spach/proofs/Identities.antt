@@ -1,11 +1,6 @@
 -- Which identities are accepted, exactly: 01, "Encoding needs 1 to 2^width − 1". Assumes nothing.
-use mathlib.Core.Path.{◌≡◌, refl}
-use mathlib.Core.Logic.{◌↔◌}
-use mathlib.Core.Bool.{Bool, true, false, not}
-use Prim.Native.Nat.{ℕ, ◌^◌, ◌<◌}
-use native.Mathlib.Omega.{arith}
-use lib.Dec.{ltb}
-use borrow.Author.Tests.{ltb-false, le-ltb, not-false}
+use Rattle.std.proofs.Common.{◌≡◌, ℕ, ◌^◌, ◌<◌, Bool, true, false, not, ltb, ◌↔◌, refl, arith, ltb-false, le-ltb}
+use borrow.Author.Tests.{not-false}
 use Rattle.rach.specs.Identity.{type_of, value_of, width_of, identity_of, in_range, encodable}
 use Rattle.rach.specs.declared.MobileIdentity.{MobileIdentity}
 use Rattle.rach.proofs.Laws.{in-range, range_in}

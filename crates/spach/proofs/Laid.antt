@@ -1,11 +1,5 @@
 -- What the tables lay is what the readers read. Assumes nothing.
-use mathlib.Core.Path.{◌≡◌, refl, sym, ◌∙◌}
-use mathlib.Core.Bool.{Bool, true, false, not}
-use mathlib.Core.List.{List, ◌++◌}
-use Prim.Native.Nat.{ℕ, ◌+◌, ◌%◌, ◌^◌, ◌<◌}
-use native.Mathlib.Nat.{mod-eq_of_lt}
-use native.Mathlib.Omega.{arith}
-use lib.Dec.{eqb}
+use Rattle.std.proofs.Common.{◌≡◌, ℕ, ◌+◌, ◌%◌, ◌^◌, ◌<◌, Bool, true, false, not, eqb, List, ◌++◌, sym, refl, ◌∙◌, mod-eq_of_lt, arith}
 use Rattle.field.specs.Bits.{bit, field}
 use Rattle.field.specs.Layout.{layout}
 use Rattle.field.proofs.Layouts.{field-layout}

@@ -1,13 +1,5 @@
 -- Laws of refusals, header A and the address: each way out of a reader, and which answer it is. Assumes nothing.
-use mathlib.Core.Path.{◌≡◌, sym, ap, ◌∙◌}
-use mathlib.Core.Bool.{Bool, false, not}
-use mathlib.Core.List.{List}
-use Prim.Native.Nat.{ℕ, ◌+◌, ◌-◌, ◌*◌, ◌/◌, ◌%◌, ◌^◌, ◌≤◌}
-use native.Mathlib.Nat.{zero-add, add-zero, div-one}
-use native.Mathlib.Omega.{arith}
-use lib.Dec.{eqb}
-use borrow.Author.Tests.{eq-eqb, ne_eqb}
-use lib.ListN.{length}
+use Rattle.std.proofs.Common.{◌≡◌, ℕ, ◌+◌, ◌-◌, ◌*◌, ◌/◌, ◌%◌, ◌^◌, ◌≤◌, Bool, false, not, eqb, List, length, sym, ap, ◌∙◌, add-zero, zero-add, div-one, arith, eq-eqb, ne_eqb}
 use Rattle.field.specs.Bits.{bits_of, field}
 use Rattle.field.proofs.Laws.{length-bits_of}
 use Rattle.field.proofs.Window.{subfield}

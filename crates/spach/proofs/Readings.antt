@@ -1,13 +1,8 @@
 -- What each reading of an answer says, case by case: the numbers are 01's, and every value is told as it is; and header A and address read at
 -- any offset of any bits, by the fields. Assumes nothing.
-use mathlib.Core.Path.{◌≡◌, refl}
-use mathlib.Core.Bool.{Bool, true, false, cond, not}
-use mathlib.Core.List.{List}
-use Prim.Native.Nat.{ℕ, ◌+◌}
-use lib.Dec.{eqb}
+use Rattle.std.proofs.Common.{◌≡◌, ℕ, ◌+◌, Bool, true, false, cond, not, eqb, List, Ok, Err, Result, refl}
 use Rattle.field.specs.Bits.{field}
 use Rattle.rach.specs.Identity.{width_of, identity_of}
-use Rattle.std.specs.Prelude.{Result, Ok, Err}
 use Rattle.spach.specs.declared.SpachError.TheVariants.{Length, Identity, UnsupportedUsage, UnsupportedFrame, Encrypted, Reserved, Filler, PartialEcho, FrameNumber, Payload, DuplicateConflict, Padding, Room, Tokens}
 use Rattle.spach.specs.declared.Channel.{Channel}
 use Rattle.spach.specs.declared.Channel.TheVariants.{Arch, Smsch, Pch}

@@ -1,13 +1,6 @@
 -- Header A and address are read alike at every offset: what is read at offset o is what is read at 0 of the bits from o on, with the
 -- cursor so much further. Assumes nothing.
-use mathlib.Core.Path.{◌≡◌, refl, sym, ap, ◌∙◌}
-use mathlib.Core.Bool.{Bool, true, false}
-use mathlib.Core.List.{List}
-use Prim.Native.Nat.{ℕ, ◌+◌}
-use native.Mathlib.Nat.{add-zero, add_assoc}
-use lib.Dec.{eqb}
-use lib.ListN.{take, drop}
-use lib.Seq.{drop-drop}
+use Rattle.std.proofs.Common.{◌≡◌, ℕ, ◌+◌, Bool, true, false, eqb, List, take, drop, sym, refl, ap, ◌∙◌, add-zero, add_assoc, drop-drop}
 use Rattle.field.specs.Bits.{value, field}
 use Rattle.rach.specs.Identity.{width_of, identity_of}
 use Rattle.spach.specs.declared.Channel.{Channel}

@@ -115,7 +115,7 @@ pub enum Channel {
 }
 
 impl Channel {
-    // Header A's usage.
+    // Header A's usage, the standard's number. Contracts read no `as` of an enum, so it is a match.
     pub fn usage(self) -> u8
         ensures { result ≡ usage_of self }
     {

@@ -1,7 +1,4 @@
-use mathlib.Core.Path.{◌≡◌, refl, sym, ap, ◌∙◌}
-use Prim.Native.Nat.{◌+◌}
-use native.Mathlib.Omega.{arith}
-use lib.ListN.{take, drop}
+use Rattle.std.proofs.Common.{◌≡◌, ◌+◌, take, drop, sym, refl, ap, ◌∙◌, arith}
 use Rattle.field.specs.Bits.{bits_of}
 use Rattle.field.specs.Layout.{any_set}
 use Rattle.field.proofs.Set.{none-set, one_set}

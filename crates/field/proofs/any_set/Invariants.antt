@@ -1,8 +1,5 @@
 -- `field::any_set` meets its contract. The invariant: none of the bits passed is set. Assumes nothing.
-use mathlib.Core.Path.{◌≡◌}
-use mathlib.Core.Bool.{false}
-use Prim.Native.Nat.{◌≤◌, ◌-◌}
-use lib.ListN.{take, drop}
+use Rattle.std.proofs.Common.{◌≡◌, ◌-◌, ◌≤◌, false, take, drop}
 use Rattle.field.specs.Bits.{bits_of}
 use Rattle.field.specs.Layout.{any_set}
 use Rattle.field.proofs.any_set.Given as goal

@@ -1,8 +1,5 @@
 -- `field::copy_bits` meets its contract. Assumes nothing.
-use mathlib.Core.Path.{◌≡◌, refl, sym, ap, ◌∙◌}
-use Prim.Native.Nat.{◌+◌}
-use native.Mathlib.Omega.{arith}
-use lib.ListN.{take, drop}
+use Rattle.std.proofs.Common.{◌≡◌, ◌+◌, take, drop, sym, refl, ap, ◌∙◌, arith}
 use Rattle.field.specs.Bits.{bits_of, splice}
 use Rattle.field.proofs.Laws.{from_bits}
 use Rattle.field.proofs.Put.{splice-nil, copied}

@@ -1,7 +1,5 @@
 -- `field::copy_bits` meets its contract. The invariant: the first k bits are copied. Assumes nothing.
-use mathlib.Core.Path.{◌≡◌}
-use Prim.Native.Nat.{◌≤◌, ◌-◌}
-use lib.ListN.{length, take, drop}
+use Rattle.std.proofs.Common.{◌≡◌, ◌-◌, ◌≤◌, length, take, drop}
 use Rattle.field.specs.Bits.{Octets, bits_of, splice}
 use Rattle.field.proofs.copy_bits.Given as goal
 

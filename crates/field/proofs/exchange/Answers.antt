@@ -1,5 +1,5 @@
 -- `field::exchange` meets its contract. Assumes nothing.
-use native.Mathlib.Omega.{arith}
+use Rattle.std.proofs.Common.{arith}
 use Rattle.field.proofs.Window.{one_shl_pos}
 use Rattle.field.proofs.Put.{old_le, exchanged, exchanged_lt}
 use Rattle.field.proofs.exchange.Goals as goal

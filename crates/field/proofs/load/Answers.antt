@@ -1,11 +1,5 @@
 -- `field::load` meets its contract: eight octets are read at once, fewer are shifted in. Assumes nothing.
-use mathlib.Core.Path.{◌≡◌, ap, ◌∙◌}
-use Prim.Native.Nat.{◌*◌, ◌%◌, ◌^◌}
-use native.Mathlib.Omega.{arith}
-use borrow.Author.Rules.{rules}
-use lib.Bits.{bit_or}
-use mir.Syntax.{w64}
-use Rattle.std.specs.Prelude.{fold}
+use Rattle.std.proofs.Common.{◌≡◌, ◌*◌, ◌%◌, ◌^◌, bit_or, fold, ap, ◌∙◌, arith, w64, rules}
 use Rattle.std.specs.Int.{from_be_bytes}
 use Rattle.field.proofs.Window.{be-value, fold-value}
 use Rattle.field.proofs.load.Goals as goal

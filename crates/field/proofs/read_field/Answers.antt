@@ -1,7 +1,5 @@
 -- `field::read_field` meets its contract. Assumes nothing.
-use mathlib.Core.Path.{◌≡◌, ap, ◌∙◌}
-use Prim.Native.Nat.{◌+◌, ◌-◌}
-use native.Mathlib.Omega.{arith}
+use Rattle.std.proofs.Common.{◌≡◌, ◌+◌, ◌-◌, ap, ◌∙◌, arith}
 use Rattle.field.proofs.Window.{window, window_holds, read_law}
 use Rattle.field.proofs.read_field.Goals as goal
 

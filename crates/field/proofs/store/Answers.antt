@@ -1,7 +1,5 @@
 -- `field::store` meets its contract: both copy the last octets of x. Assumes nothing.
-use mathlib.Core.Path.{sym, ap, ◌∙◌}
-use Prim.Native.Nat.{◌*◌, ◌-◌}
-use lib.ListN.{length, take, drop}
+use Rattle.std.proofs.Common.{◌-◌, ◌*◌, length, take, drop, sym, ap, ◌∙◌}
 use Rattle.field.specs.Bits.{bits, bits_of}
 use Rattle.field.proofs.Put.{be-bits, last_octets}
 use Rattle.field.proofs.store.Goals as goal

@@ -1,7 +1,5 @@
 -- `field::write_field` meets its contract. Assumes nothing.
-use mathlib.Core.Path.{◌≡◌, ap, ◌∙◌}
-use Prim.Native.Nat.{◌+◌, ◌-◌, ◌*◌}
-use native.Mathlib.Omega.{arith}
+use Rattle.std.proofs.Common.{◌≡◌, ◌+◌, ◌-◌, ◌*◌, ap, ◌∙◌, arith}
 use borrow.Rule.Slice.PartMut.{same_len_mid}
 use Rattle.field.specs.Bits.{bits, bits_of, put}
 use Rattle.field.proofs.Laws.{from_bits}

@@ -1,9 +1,10 @@
 -- `listing::value_of` meets its contract. Assumes nothing.
-use mathlib.Core.Path.{ap₂, ◌∙◌}
-use Prim.Native.Nat.{◌+◌, ◌*◌}
-use Rattle.listing.proofs.Opened.{halves}
+use Rattle.std.proofs.Common.{ap, ◌∙◌, w64}
+use Rattle.std.specs.Int.{from_be_bytes}
+use Rattle.listing.proofs.Opened.{eight}
 use Rattle.listing.proofs.value_of.Goals as goal
 
 pub returns : goal.returns
 returns c =
-    ap₂ (λ a b. a * 4294967296 + b) c.read_field-high.ensures.value c.read_field.ensures.value ∙ halves c.args.octets.now c.requires.enough
+    let w = rw c.unwrap.ensures at c.try_from.ensures in
+    c.from_be_bytes.ensures ∙ ap (from_be_bytes w64) w.1.same ∙ eight c.args.octets.now c.requires (λ i. (c.type_inv.octets i).fits)

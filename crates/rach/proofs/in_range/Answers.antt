@@ -1,6 +1,5 @@
 -- `rach::in_range` meets its contract. Assumes nothing.
-use native.Mathlib.Omega.{arith}
-use borrow.Author.Tests.{lt-ltb}
+use Rattle.std.proofs.Common.{arith, lt-ltb}
 use Rattle.field.proofs.Window.{one_shl}
 use Rattle.rach.specs.Identity.{in_range}
 use Rattle.rach.proofs.in_range.Goals as goal

@@ -1,8 +1,5 @@
 -- `spach::accept_identity` meets its contract. Assumes nothing.
-use mathlib.Core.Path.{◌≡◌, sym, ap, ◌∙◌}
-use mathlib.Core.Bool.{Bool}
-use Prim.Native.Nat.{ℕ}
-use borrow.Author.Tests.{lt-ltb, le-ltb}
+use Rattle.std.proofs.Common.{◌≡◌, ℕ, Bool, sym, ap, ◌∙◌, le-ltb, lt-ltb}
 use Rattle.rach.specs.Identity.{width_of, in_range}
 use Rattle.rach.proofs.Laws.{range_in}
 use Rattle.spach.specs.Refusal.{gives}

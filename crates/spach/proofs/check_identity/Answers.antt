@@ -1,5 +1,5 @@
 -- `spach::check_identity` meets its contract. Assumes nothing.
-use mathlib.Core.Path.{sym, ◌∙◌}
+use Rattle.std.proofs.Common.{sym, ◌∙◌}
 use Rattle.spach.specs.Identity.{check_identity}
 use Rattle.spach.proofs.check_identity.Goals as goal
 

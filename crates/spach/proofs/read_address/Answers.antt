@@ -1,6 +1,5 @@
 -- `spach::read_address` meets its contract. Assumes nothing.
-use mathlib.Core.Path.{refl, ◌∙◌}
-use native.Mathlib.Omega.{arith}
+use Rattle.std.proofs.Common.{refl, ◌∙◌, arith}
 use Rattle.field.specs.Bits.{bits_of}
 use Rattle.spach.proofs.Laws.{part_read, address-bit, address_encrypted, address_identity}
 use Rattle.spach.proofs.read_address.Goals as goal

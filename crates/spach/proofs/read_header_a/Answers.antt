@@ -1,6 +1,5 @@
 -- `spach::read_header_a` meets its contract. Assumes nothing.
-use mathlib.Core.Path.{refl, sym, ap, ◌∙◌}
-use native.Mathlib.Omega.{arith}
+use Rattle.std.proofs.Common.{sym, refl, ap, ◌∙◌, arith}
 use Rattle.field.specs.Bits.{bits_of}
 use Rattle.spach.specs.Refusal.{number_of}
 use Rattle.spach.specs.Header.{channel_of}

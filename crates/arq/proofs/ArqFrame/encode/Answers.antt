@@ -1,5 +1,5 @@
 -- `arq::ArqFrame::encode` meets its contract. Assumes nothing.
-use mathlib.Core.Path.{ap, ◌∙◌}
+use Rattle.std.proofs.Common.{ap, ◌∙◌}
 use Rattle.spach.specs.Refusal.{gives, number_of}
 use Rattle.spach.proofs.Outcomes.{handed_on}
 use Rattle.arq.specs.Frame.{begin_frame, continue_frame}

@@ -1,6 +1,5 @@
 -- `arq::check::check_begin` meets its contract. Assumes nothing.
-use mathlib.Core.Path.{sym, ◌∙◌}
-use borrow.Author.Tests.{lt-ltb, le-ltb}
+use Rattle.std.proofs.Common.{sym, ◌∙◌, le-ltb, lt-ltb}
 use Rattle.spach.specs.Refusal.{number_of}
 use Rattle.spach.proofs.Outcomes.{handed_on}
 use Rattle.arq.proofs.Checks.{identity-checked, checks_refuse, checks_pass}

@@ -1,10 +1,5 @@
 -- `arq::check::filler_set` meets its contract. Assumes nothing.
-use mathlib.Core.Path.{sym, ap, ◌∙◌}
-use Prim.Native.Nat.{◌-◌, ◌≤◌}
-use native.Mathlib.Omega.{arith}
-use lib.ListN.{length, take, drop, length-take}
-use lib.Seq.{drop-drop}
-use borrow.Author.Tests.{le-ltb}
+use Rattle.std.proofs.Common.{◌-◌, ◌≤◌, length, take, drop, sym, ap, ◌∙◌, arith, length-take, drop-drop, le-ltb}
 use Rattle.field.specs.Bits.{bits_of}
 use Rattle.field.specs.Layout.{any_set}
 use Rattle.field.proofs.Set.{any_set_none, drop-take}

@@ -1,5 +1,5 @@
 -- `arq::cut::check_cut` meets its contract. Assumes nothing.
-use borrow.Author.Tests.{le-ltb}
+use Rattle.std.proofs.Common.{le-ltb}
 use Rattle.spach.specs.Identity.{check_identity}
 use Rattle.arq.proofs.Checks.{header_passed}
 use Rattle.arq.proofs.cut.check_cut.Goals as goal

@@ -1,7 +1,5 @@
 -- `arq::cut::fragment` meets its contract. Assumes nothing.
-use mathlib.Core.Path.{◌≡◌, sym, ap, ◌∙◌}
-use Prim.Native.Nat.{suc, ◌-◌}
-use native.Mathlib.Omega.{arith}
+use Rattle.std.proofs.Common.{◌≡◌, suc, ◌-◌, sym, ap, ◌∙◌, arith}
 use Rattle.spach.specs.Refusal.{number_of}
 use Rattle.spach.proofs.Outcomes.{handed_on}
 use Rattle.arq.specs.Cut.{cut_frame}

@@ -1,5 +1,5 @@
 -- `arq::cut::fragment_count` meets its contract. Assumes nothing.
-use mathlib.Core.Path.{◌∙◌}
+use Rattle.std.proofs.Common.{◌∙◌}
 use Rattle.spach.specs.Refusal.{number_of}
 use Rattle.spach.proofs.Outcomes.{handed_on}
 use Rattle.arq.proofs.Fragments.{count_refused, count_given}

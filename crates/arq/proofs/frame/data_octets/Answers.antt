@@ -1,8 +1,6 @@
 -- `arq::frame::data_octets` meets its contract. Assumes nothing.
-use mathlib.Core.Path.{◌≡◌}
-use Prim.Native.Nat.{ℕ}
-use native.Mathlib.Omega.{arith}
-use lib.ListN.{length, take, drop, replicate, length-take, length-replicate}
+use Rattle.std.proofs.Common.{◌≡◌, ℕ, length, take, drop, replicate, arith, length-take}
+use lib.ListN.{length-replicate}
 use Rattle.field.specs.Bits.{bits_of}
 use Rattle.field.proofs.Cuts.{copied_octets}
 use Rattle.arq.proofs.Written.{blank_bits}

@@ -1,5 +1,5 @@
 -- `arq::read::decode` meets its contract. Assumes nothing.
-use mathlib.Core.Path.{ap, ◌∙◌}
+use Rattle.std.proofs.Common.{ap, ◌∙◌}
 use Rattle.field.specs.Bits.{bits_of, field}
 use Rattle.spach.specs.Refusal.{number_of}
 use Rattle.spach.specs.Header.{header_a_at}

@@ -1,5 +1,5 @@
 -- `arq::read::decode_kind` meets its contract. Assumes nothing.
-use native.Mathlib.Omega.{arith}
+use Rattle.std.proofs.Common.{arith}
 use Rattle.field.specs.Bits.{bits_of}
 use Rattle.field.proofs.Laws.{length-bits_of}
 use Rattle.arq.proofs.Decoded.{address_ends}

@@ -1,6 +1,5 @@
 -- `arq::read::read_header` meets its contract. Assumes nothing.
-use mathlib.Core.Path.{refl}
-use native.Mathlib.Omega.{arith}
+use Rattle.std.proofs.Common.{refl, arith}
 use Rattle.spach.proofs.Laws.{part_read}
 use Rattle.arq.proofs.read.read_header.Goals as goal
 

@@ -1,5 +1,5 @@
 -- `arq::write::header_a_number` meets its contract. Assumes nothing.
-use mathlib.Core.Path.{◌∙◌}
+use Rattle.std.proofs.Common.{◌∙◌}
 use Rattle.arq.proofs.Written.{header_a_number}
 use Rattle.arq.proofs.write.header_a_number.Goals as goal
 

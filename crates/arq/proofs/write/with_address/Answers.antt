@@ -1,5 +1,5 @@
 -- `arq::write::with_address` meets its contract. Assumes nothing.
-use native.Mathlib.Omega.{arith}
+use Rattle.std.proofs.Common.{arith}
 use Rattle.field.specs.Bits.{bits_of}
 use Rattle.field.proofs.Laws.{repack, length-bits_of}
 use Rattle.arq.proofs.Written.{address-written}

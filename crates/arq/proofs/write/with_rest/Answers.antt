@@ -1,7 +1,5 @@
 -- `arq::write::with_rest` meets its contract. Assumes nothing.
-use mathlib.Core.Path.{refl, ap, ◌∙◌}
-use Prim.Native.Nat.{◌+◌}
-use native.Mathlib.Omega.{arith}
+use Rattle.std.proofs.Common.{◌+◌, refl, ap, ◌∙◌, arith}
 use Rattle.field.specs.Bits.{bits_of, put}
 use Rattle.field.proofs.Laws.{repack, length-bits_of}
 use Rattle.arq.specs.Frame.{rest_of}

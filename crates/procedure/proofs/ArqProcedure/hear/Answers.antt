@@ -1,8 +1,5 @@
 -- `procedure::ArqProcedure::hear` meets its contract. Assumes nothing.
-use mathlib.Core.Path.{◌≡◌, sym, ap, ◌∙◌, subst}
-use mathlib.Core.Bool.{true, false}
-use Rattle.std.specs.Prelude.{Ok}
-use Rattle.std.proofs.Common.{rules}
+use Rattle.std.proofs.Common.{◌≡◌, true, false, Ok, sym, ap, ◌∙◌, subst, rules}
 use Rattle.arq.specs.Encode.{by_kind}
 use Rattle.inactivity.specs.Inactivity as I
 use Rattle.procedure.specs.Procedure.{Procedure}

@@ -1,5 +1,5 @@
 -- `procedure::ArqProcedure::receive` meets its contract. Assumes nothing.
-use mathlib.Core.Path.{ap, ◌∙◌}
+use Rattle.std.proofs.Common.{ap, ◌∙◌}
 use Rattle.procedure.specs.Procedure.{Procedure, receive_of}
 use Rattle.procedure.proofs.Parts.{receive_refused, receive_goes}
 use Rattle.procedure.proofs.ArqProcedure.receive.Goals as goal

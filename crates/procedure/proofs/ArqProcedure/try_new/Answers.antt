@@ -1,5 +1,5 @@
 -- `procedure::ArqProcedure::try_new` meets its contract. Assumes nothing.
-use mathlib.Core.Path.{sym}
+use Rattle.std.proofs.Common.{sym}
 use Rattle.procedure.proofs.Invariant.{sound_made}
 use Rattle.procedure.proofs.ArqProcedure.try_new.Goals as goal
 

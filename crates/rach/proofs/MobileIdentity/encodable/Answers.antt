@@ -1,5 +1,5 @@
 -- `rach::MobileIdentity::encodable` meets its contract. Assumes nothing.
-use mathlib.Core.Path.{ap, ◌∙◌}
+use Rattle.std.proofs.Common.{ap, ◌∙◌}
 use Rattle.rach.specs.Identity.{in_range, encodable}
 use Rattle.rach.proofs.MobileIdentity.encodable.Goals as goal
 

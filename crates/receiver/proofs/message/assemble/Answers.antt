@@ -1,8 +1,4 @@
-use mathlib.Core.Path.{◌≡◌, ap, ap₂, ◌∙◌}
-use Prim.Native.Nat.{◌-◌, ◌*◌, ◌<◌, min}
-use native.Mathlib.Omega.{arith}
-use lib.ListN.{length, take}
-use borrow.Author.Rules.{rules}
+use Rattle.std.proofs.Common.{◌≡◌, ◌-◌, ◌*◌, ◌<◌, min, length, take, ap, ◌∙◌, ap₂, arith, rules}
 use Rattle.field.specs.Bits.{bits, bits_of, octets, splice}
 use Rattle.field.specs.Layout.{zeros}
 use Rattle.field.proofs.Laws.{repack}

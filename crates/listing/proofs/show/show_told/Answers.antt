@@ -1,9 +1,9 @@
--- `listing::show::show` meets its contract. Assumes nothing.
+-- `listing::show::show_told` meets its contract. Assumes nothing.
 use Rattle.std.proofs.Common.{arith, sym}
 use Rattle.std.proofs.lemmas.Result.{IfOk-at_ok, on_ok_weaker}
 use Rattle.listing.proofs.Opened.{opened_valid, opened_nine}
 use Rattle.listing.proofs.Shown.{reads_first, reads_given, prints_refused, prints_given}
-use Rattle.listing.proofs.show.show.Goals as goal
+use Rattle.listing.proofs.show.show_told.Goals as goal
 
 pub returns-in-Err-clause-reads : goal.returns-in-Err-clause-reads
 returns-in-Err-clause-reads g c =
