@@ -71,7 +71,7 @@ fn transfer_sum(sum: u64, x: &Transfer) -> u64 {
         x.generation.0,
         u64::from(x.parcel.channel.usage()),
         u64::from(x.parcel.octets),
-        u64::from(x.parcel.frames.get()),
+        u64::from(x.parcel.frames),
     ];
     words_sum(words_sum(sum, &words), &progress_words(x))
 }

@@ -85,7 +85,7 @@ pub fn transfer_values(x: Option<&Transfer>) -> Values<90> {
     values.number(x.generation.0);
     values.push(x.parcel.channel.usage());
     values.push(x.parcel.octets);
-    values.push(x.parcel.frames.get());
+    values.push(x.parcel.frames);
     put_progress(&mut values, x);
     values
 }

@@ -9,7 +9,7 @@ use Rattle.std.specs.Prelude.{None, Some}
 use Rattle.std.specs.List as list
 use Rattle.transfer.specs.declared.Transfer.{Transfer}
 use Rattle.transfer.specs.Lists.{remove_at}
-use Rattle.transfer.specs.State.{View, with_transfers, with_selected, says, of_echo}
+use Rattle.transfer.specs.State.{View, with_transfers, with_selected, says, of_echo, blank_transfer}
 use Rattle.transfer.specs.Prepare.{is_ready, front_of, selects, choose_from, choose, repeated, only_echo, prioritized, prioritize_at}
 use Rattle.transfer.proofs.Placed.{seek_there, seek_none}
 
@@ -17,9 +17,9 @@ use Rattle.transfer.proofs.Placed.{seek_there, seek_none}
 
 module _ (v : View) (octets : List ℕ) (s : v.selected ≡ None) where
   -- the first that has one queued, as the code read it at its place
-  pub chosen : {i : ℕ} {m : List Transfer} {x : Transfer} → Some i ≡ list.position is_ready v.transfers → m ≡ v.transfers → x ≡ get_or m i x → selects v x (front_of x octets) ≡ choose v octets
+  pub chosen : {i : ℕ} {x : Transfer} → Some i ≡ list.position is_ready v.transfers → x ≡ get_or v.transfers i blank_transfer → selects v x (front_of x octets) ≡ choose v octets
   unfolding choose
-  chosen e q is = seek_there is_ready v.transfers (says None v) (λ place x. selects v x (front_of x octets)) e q is ∙ ap (choose_from v octets) (sym s)
+  chosen e is = seek_there is_ready v.transfers (says None v) (λ place x. selects v x (front_of x octets)) e is ∙ ap (choose_from v octets) (sym s)
 
   -- none has one queued
   pub chosen_none : None ≡ list.position is_ready v.transfers → says None v ≡ choose v octets
@@ -43,14 +43,14 @@ module _ (v : View) (octets : List ℕ) (echo : ℕ) where
   unfolding prioritize_at
   prioritize_none e = seek_none (of_echo echo) v.transfers (says None v) (prioritized v octets echo) e
 
-  module _ {i : ℕ} {m : List Transfer} {x : Transfer} (e : Some i ≡ list.position (of_echo echo) v.transfers) (q : m ≡ v.transfers) (is : x ≡ get_or m i x) {y : Transfer} (ey : y ≡ repeated x) {w : View} (ew : w ≡ fronted v echo i x) where
+  module _ {i : ℕ} {x : Transfer} (e : Some i ≡ list.position (of_echo echo) v.transfers) (is : x ≡ get_or v.transfers i blank_transfer) {y : Transfer} (ey : y ≡ repeated x) {w : View} (ew : w ≡ fronted v echo i x) where
     -- the transfer that has it, at the front
     prioritize_found : (b : Bool) → is_ready y ≡ b → cond b (choose w octets) (says None w) ≡ prioritize_at v octets echo
     unfolding prioritize_at
     prioritize_found b t =
         ap (λ (u : View). cond b (choose u octets) (says None u)) ew
         ∙ (ap (λ (c : Bool). cond c (choose (fronted v echo i x) octets) (says None (fronted v echo i x))) (sym t ∙ ap is_ready ey)
-        ∙ seek_there (of_echo echo) v.transfers (says None v) (prioritized v octets echo) e q is)
+        ∙ seek_there (of_echo echo) v.transfers (says None v) (prioritized v octets echo) e is)
 
     -- it has nothing queued
     pub prioritize_idle : y.sets.queue ≡ 0 → says None w ≡ prioritize_at v octets echo

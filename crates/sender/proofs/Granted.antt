@@ -30,13 +30,11 @@ use Rattle.transfer.proofs.Listed.{any-true, some_all, length_removed}
 use Rattle.transfer.proofs.Placed.{place_is}
 use Rattle.transfer.proofs.Invariant.{hold-kept, seek_cases, lowest_free, count_gives, Passes, grant_passes}
 
--- a message that is cut has 1 to 27 frames
-pub count_low : (h : ArqHeader) (i : MobileIdentity) (message : List ℕ) {n : ℕ} → count_of h i message ≡ gives n → (1 ≤ n) × (n ≤ 27)
+-- a message that is cut has at most 27 frames
+pub count_low : (h : ArqHeader) (i : MobileIdentity) (message : List ℕ) {n : ℕ} → count_of h i message ≡ gives n → n ≤ 27
 count_low h i message {n} e =
     let c = count_gives h i message e in
-    let m = cut_most i (length message) c.0 in
-    let s = c.3 in
-    (omega arith, omega arith)
+    rw c.3 (cut_most i (length message) c.0)
 
 -- ---- the places in the lent store
 
@@ -98,6 +96,10 @@ module _ (v : View) (r : Request) (message : List ℕ) (g : Grant) (h : Sound v)
   -- its octets
   pub accept_octets : length message ≤ 255
   accept_octets = passes.proper.most_octets
+
+  -- its frames
+  pub accept_frames : g.frames ≤ 27
+  accept_frames = rw passes.proper.frames (cut_most r.identity (length message) accept_octets)
 
   -- the sender with its echo held
   abbrev pub holding : View

@@ -16,7 +16,7 @@ use Rattle.transfer.specs.Queue.{is_empty, front}
 use Rattle.transfer.specs.declared.Limits.{Limits}
 use Rattle.transfer.specs.declared.Clock.{Clock}
 use Rattle.transfer.specs.Lists.{remove_at, push_back}
-use Rattle.transfer.specs.State.{Echoes, View, Lent, Out, refusal, of_generation, with_selected, with_transfers}
+use Rattle.transfer.specs.State.{Echoes, View, Lent, Out, refusal, of_generation, with_selected, with_transfers, blank_transfer}
 use Rattle.transfer.specs.Prepare.{is_ready}
 use Rattle.transfer.specs.Submitted.{is_selected, in_flight_lem, handed_in, submitted_at}
 use Rattle.transfer.specs.Invariant.{Live, Sound}
@@ -42,11 +42,11 @@ front_frame x a frame f =
     pos (suc n) k = omega arith
 
 -- its word is among the 3456
-pub word_low : (v : View) {m : List Transfer} {i n : ℕ} {x : Transfer} → m ≡ v.transfers → x ≡ get_or m i x → i < length v.transfers → Sound v
+pub word_low : (v : View) {i n : ℕ} {x : Transfer} → x ≡ get_or v.transfers i blank_transfer → i < length v.transfers → Sound v
     → (frame : ℕ) → (is_ready x && eqb (front x.sets.queue) frame) ≡ true → n ≡ x.parcel.n → 27 * n + frame < 3456
-word_low v {x = x} e is lt h frame f q =
-    let low = place_low v e is lt h in
-    let small = front_frame x (live_there v e is lt h) frame f in
+word_low v {x = x} is lt h frame f q =
+    let low = place_low v is lt h in
+    let small = front_frame x (live_there v is lt h) frame f in
     omega arith
 
 -- what the code leaves
@@ -65,10 +65,10 @@ module _ (v : View) (m : Lent) (t : FrameToken) (s : is_selected t v.selected �
   submit_unfound e = rw s (seek_none (of_generation t.generation) v.transfers (refusal 24 v m) handled e)
 
   -- its transfer as the code read it, and whether the frame is the front of that queue
-  module _ {i : ℕ} {l : List Transfer} {x : Transfer} (e : Some i ≡ list.position (of_generation t.generation) v.transfers) (q : l ≡ v.transfers) (is : x ≡ get_or l i x) where
+  module _ {i : ℕ} {x : Transfer} (e : Some i ≡ list.position (of_generation t.generation) v.transfers) (is : x ≡ get_or v.transfers i blank_transfer) where
     submit_found : (b : Bool) → (is_ready x && eqb (front x.sets.queue) t.frame) ≡ b → cond b (handed_in v m t i x) (refusal 24 v m) ≡ submitted_at v m t
     unfolding submitted_at
-    submit_found b f = rw (s, ← f) (seek_there (of_generation t.generation) v.transfers (refusal 24 v m) handled e q is)
+    submit_found b f = rw (s, ← f) (seek_there (of_generation t.generation) v.transfers (refusal 24 v m) handled e is)
 
     pub submit_behind : (is_ready x && eqb (front x.sets.queue) t.frame) ≡ false → refusal 24 v m ≡ submitted_at v m t
     submit_behind f = submit_found false f

@@ -12,16 +12,15 @@ use Rattle.receiver.specs.declared.ArqStatus.{ArqStatus}
 use Rattle.transfer.specs.declared.FrameToken.{FrameToken}
 use Rattle.transfer.specs.declared.Transfer.{Transfer}
 use Rattle.transfer.specs.Queue.{has}
-use Rattle.transfer.specs.State.{View, says, put_at, of_echo, of_generation}
+use Rattle.transfer.specs.State.{View, says, put_at, of_echo, of_generation, blank_transfer}
 use Rattle.transfer.specs.Transfer.{went_out}
 use Rattle.transfer.specs.Advance.{walked}
 use Rattle.transfer.specs.Status.{observes, status_at}
 use Rattle.transfer.specs.Submitted.{is_outstanding, confirms, transmitted_at}
 use Rattle.transfer.specs.Invariant.{Sound}
-use Rattle.transfer.proofs.Alive.{frames_live}
 use Rattle.transfer.proofs.Moves.{outstanding_frame}
 use Rattle.transfer.proofs.Placed.{seek_there, seek_none}
-use Rattle.sender.proofs.Found.{live_there, place_low}
+use Rattle.sender.proofs.Found.{frames_there, place_low}
 
 abbrev hears : View → ArqStatus → ℕ → Transfer → After Bool View
 hears v s place x = cond (has (went_out x) 0) (says true (walked (put_at v place (observes s.received_frames v.clock.last_block x)))) (says false v)
@@ -29,7 +28,7 @@ hears v s place x = cond (has (went_out x) 0) (says true (walked (put_at v place
 abbrev finds : View → List ℕ → FrameToken → ℕ → Transfer → After (Option Bool) View
 finds v words t place x = cond (is_outstanding t words x) (confirms v t place x) (says None v)
 
-module _ (v : View) {i : ℕ} {l : List Transfer} {x : Transfer} (q : l ≡ v.transfers) (is : x ≡ get_or l i x) where
+module _ (v : View) {i : ℕ} {x : Transfer} (is : x ≡ get_or v.transfers i blank_transfer) where
   -- ---- a status
 
   module _ (s : ArqStatus) where
@@ -37,7 +36,7 @@ module _ (v : View) {i : ℕ} {l : List Transfer} {x : Transfer} (q : l ≡ v.tr
     module _ (e : Some i ≡ list.position (of_echo s.partial_echo) v.transfers) where
       heard : (b : Bool) → has (went_out x) 0 ≡ b → cond b (says true (walked (put_at v i (observes s.received_frames v.clock.last_block x)))) (says false v) ≡ status_at v s
       unfolding status_at
-      heard b f = rw (← f) (seek_there (of_echo s.partial_echo) v.transfers (says false v) (hears v s) e q is)
+      heard b f = rw (← f) (seek_there (of_echo s.partial_echo) v.transfers (says false v) (hears v s) e is)
 
       -- its Begin did not go out
       pub heard_early : has (went_out x) 0 ≡ false → says false v ≡ status_at v s
@@ -50,22 +49,22 @@ module _ (v : View) {i : ℕ} {l : List Transfer} {x : Transfer} (q : l ≡ v.tr
   -- ---- a frame confirmed
 
   module _ (words : List ℕ) (t : FrameToken) where
-    -- the words of a live transfer are lent
-    pub words_room : i < length v.transfers → Sound v → 3456 ≤ length words → 27 * x.parcel.n + 27 ≤ length words
-    words_room lt h long = let low = place_low v q is lt h in omega arith
+    -- a live transfer has at most 27 frames, and their words are lent
+    pub words_room : i < length v.transfers → Sound v → 3456 ≤ length words → (x.parcel.frames ≤ 27) × (27 * x.parcel.n + 27 ≤ length words)
+    words_room lt h long = let low = place_low v is lt h in ((frames_there v is lt h).1, omega arith)
 
     -- a frame of it in flight is below 27
     pub outstanding_low : i < length v.transfers → Sound v → is_outstanding t words x ≡ true → t.frame < 27
     outstanding_low lt h f =
         let low = outstanding_frame t words x f in
-        let most = (frames_live x (live_there v q is lt h)).1 in
+        let most = (frames_there v is lt h).1 in
         omega arith
 
     -- of the transfer's generation
     module _ (e : Some i ≡ list.position (of_generation t.generation) v.transfers) where
       confirmed : (b : Bool) → is_outstanding t words x ≡ b → cond b (confirms v t i x) (says None v) ≡ transmitted_at v words t
       unfolding transmitted_at
-      confirmed b f = rw (← f) (seek_there (of_generation t.generation) v.transfers (says None v) (finds v words t) e q is)
+      confirmed b f = rw (← f) (seek_there (of_generation t.generation) v.transfers (says None v) (finds v words t) e is)
 
       -- it is not in flight
       pub confirmed_lost : is_outstanding t words x ≡ false → says None v ≡ transmitted_at v words t

@@ -1,4 +1,3 @@
-pub mod Admitted
 pub mod Apart
 pub mod Asked
 pub mod Chosen

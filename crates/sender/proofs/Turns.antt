@@ -8,15 +8,15 @@ use native.Mathlib.Omega.{arith}
 use lib.ListN.{length, take, drop, get_or, set, length-set, drop_of_length-le}
 use lib.Seq.{drop-cons, drop-set-lt, take-suc-set}
 use Rattle.std.specs.Prelude.{Option, None, Some, option_to_list}
-use Rattle.std.proofs.lemmas.List.{append-nil, get_or_default}
+use Rattle.std.proofs.lemmas.List.{append-nil}
 use Rattle.token.specs.Token.{stop}
 use Rattle.transfer.specs.declared.Transfer.{Transfer}
 use Rattle.transfer.specs.State.{View, with_transfers, blank_transfer}
 use Rattle.transfer.specs.Advance.{step}
 use Rattle.transfer.specs.Invariant.{Sound}
-use Rattle.transfer.proofs.Listed.{all-at}
 use Rattle.sender.specs.Asked.{asked_at}
 use Rattle.sender.proofs.Asked.{flag, asked_from, length_asked}
+use Rattle.sender.proofs.Found.{live_there, frames_there}
 
 -- a list that is another from i on: its element there, and what comes after
 there : {A : Type 0} (l m : List A) (i : ℕ) (d : A) → drop i m ≡ drop i l → i < length l → i < length m → (get_or m i d ≡ get_or l i d) × (drop (suc i) m ≡ drop (suc i) l)
@@ -62,16 +62,18 @@ module _ {v : View} {asked : Option ℕ} {u : View} {kept i : ℕ} (t : Turning 
     turn_low = let l = t.low in let s = t.size in omega arith
 
     -- x is what the code read there
-    module _ {x : Transfer} (is : x ≡ get_or u.transfers i x) where
+    module _ {x : Transfer} (is : x ≡ get_or u.transfers i blank_transfer) where
       -- it has not been written over
       here : x ≡ get_or v.transfers i blank_transfer
-      here = is ∙ ((there v.transfers u.transfers i x t.tail lt within).0 ∙ get_or_default v.transfers i x blank_transfer lt)
+      here = is ∙ (there v.transfers u.transfers i blank_transfer t.tail lt within).0
 
       -- until when a restart holds an echo fits in 64 bits
       pub turn_fits : Sound v → x.parcel.deadline_ms + u.limits.echo_guard_ms ≤ stop
-      turn_fits h =
-          let a = all-at v.transfers i blank_transfer lt h.transfers in
-          rw (t.limits, here) a.holds.fits
+      turn_fits h = rw (t.limits, here) (live_there v refl lt h).holds.fits
+
+      -- it has 1 to 27 frames
+      pub turn_frames : Sound v → (1 ≤ x.parcel.frames) × (x.parcel.frames ≤ 27)
+      turn_frames h = rw here (frames_there v refl lt h)
 
       -- w is the sender after the turn, and o the transfer if it goes on
       module _ (o : Option Transfer) {w : View} {b : Bool} (asks : b ≡ flag asked i) (turn : (before : List Transfer) → step (with_transfers u before) (b, x) ≡ with_transfers w (before ++ option_to_list o))

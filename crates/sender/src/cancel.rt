@@ -1,9 +1,10 @@
 // Transfers cancelled.
 // Ported from runtime/spach_arq.rs (chrismoos/136-bts 7c60b63bf4, Apache-2.0) and changed: see NOTICE.
-ghost use Rattle.std.specs.Prelude.{◌≡◌, ◌+◌, ◌≤◌, ◌<◌, get_or, length};
-ghost use Rattle.transfer.specs.Cancel.{cancel_all_of};
+ghost use Rattle.std.specs.Prelude.{Bool, ◌≡◌, ◌+◌, ◌≤◌, ◌<◌, IfSome, get_or, length, position};
+ghost use Rattle.transfer.specs.declared.Transfer.{Transfer};
+ghost use Rattle.transfer.specs.Cancel.{cancel_all_of, cancel_first};
 ghost use Rattle.transfer.specs.Enqueue.{replaced};
-ghost use Rattle.transfer.specs.State.{cancel_at, blank_transfer};
+ghost use Rattle.transfer.specs.State.{cancel_at, blank_transfer, says};
 
 use super::Sender;
 use super::table::Table;
@@ -15,7 +16,7 @@ impl Table {
 
     // Each transfer's Cancelled waits behind the other events, in their order; none is live, and nothing is selected.
     #[tactic(auto, unfolding(transfer::specs::Cancel::cancel_all_of))]
-    fn cancel_each(&mut self)
+    pub(crate) fn cancel_each(&mut self)
         requires { length self.old.transfers.items + length self.old.events.items ≤ 256 }
         ensures { view_of self.new ≡ cancel_all_of (view_of self.old) }
     {
@@ -48,10 +49,15 @@ impl Sender {
         }
     }
 
-    // All are.
-    pub(crate) fn cancel_each(&mut self)
-        ensures { self.new ≡ cancel_all_of self.old }
+    // If one was found at this place, it is taken out, and Cancelled; whether one was.
+    pub(crate) fn cancel_found(mut self, place: Option<usize>) -> (Self, bool)
+        requires { IfSome place (λ i. i < length self.transfers) }
+        ensures { (passes : Transfer → Bool) → place ≡ position passes self.transfers → says result.1 result.0 ≡ cancel_first passes self }
     {
-        self.table.cancel_each();
+        let Some(place) = place else {
+            return (self, false);
+        };
+        self.cancel_at(place);
+        (self, true)
     }
 }

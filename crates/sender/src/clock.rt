@@ -52,10 +52,10 @@ impl Sender {
         ensures room { OnOk result ((32640 ≤ length store.now) × (3456 ≤ length words.now)) }
     {
         if is_short(store, words) {
-            return Err(Error::Wire(SpachError::Room));
+            return Err(SpachError::Room.into());
         }
         if fewer_than(CALL_TOKENS, self.table.next_token) {
-            return Err(Error::Wire(SpachError::Tokens));
+            return Err(SpachError::Tokens.into());
         }
         self.tick(block, now_ms)
     }

@@ -16,7 +16,6 @@ use spach::SpachError;
 use token::number_after;
 use transfer::constants::ECHO_VALUES;
 use transfer::frame::header_of;
-use transfer::frame_count::FrameCount;
 use transfer::settling::begun;
 use transfer::store::store_message;
 use transfer::{Error, Grant, Parcel, Request, Transfer, TransferToken};
@@ -25,8 +24,8 @@ impl Table {
     ghost use Rattle.sender.specs.View.{view_of};
 
     // The refusals in their order.
-    #[tactic(auto, unfolding(transfer::specs::Enqueue::grant_of))]
-    fn grant(&self, request: Request, message: &[u8]) -> Result<Grant, Error>
+    #[tactic(auto, using(crate::proofs::Granted::count_low), unfolding(transfer::specs::Enqueue::grant_of))]
+    pub(crate) fn grant(&self, request: Request, message: &[u8]) -> Result<Grant, Error>
         ensures { by_number refusal_of result ≡ definition.grant_of (view_of self.now) request message.now }
     {
         let capacity = self.limits.capacity;
@@ -37,18 +36,18 @@ impl Table {
             return Err(Error::Deadline);
         }
         if message.is_empty() {
-            return Err(Error::Wire(SpachError::Length));
+            return Err(SpachError::Length.into());
         }
         if !self.contains(request.identity) && capacity <= self.transfers.len() {
             return Err(Error::Capacity);
         }
         let header = header_of(request.channel, 0, false);
         let frames = fragment_count(header, request.identity, message)?;
-        self.allocate_echo(request.deadline_ms, FrameCount::new(frames as u8))
+        self.allocate_echo(request.deadline_ms, frames as u8)
     }
 
     // Before the first block 21; deadline plus guard over 64 bits 23; no echo free 21.
-    fn allocate_echo(&self, deadline_ms: u64, frames: FrameCount) -> Result<Grant, Error>
+    fn allocate_echo(&self, deadline_ms: u64, frames: u8) -> Result<Grant, Error>
         ensures { by_number refusal_of result ≡ definition.allocated self.now.limits self.now.clock self.now.echoes deadline_ms frames }
     {
         if self.clock.last_block < self.limits.startup_until_block {
@@ -66,7 +65,7 @@ impl Table {
 
 // The transfer of a request: its owner and its first generation are one number.
 fn newcomer(request: Request, message: &[u8], grant: Grant, n: usize, token: u64) -> Transfer
-    requires { (length message.now ≤ 255) × (n < 128) }
+    requires { (length message.now ≤ 255) × (grant.frames ≤ 27) × (n < 128) }
     ensures { result ≡ begins (definition.parcel_of request message.now grant.frames n token) grant.echo token }
 {
     let parcel = Parcel {
@@ -109,7 +108,7 @@ impl Sender {
     }
 
     // The echo is held, a transfer to the same identity replaced, the message stored, and its transfer put at the back.
-    fn accept(
+    pub(crate) fn accept(
         &mut self,
         request: Request,
         message: &[u8],
@@ -132,21 +131,5 @@ impl Sender {
             .push(newcomer(request, message, grant, n, token));
         self.table.next_token = number_after(token);
         TransferToken(token)
-    }
-
-    pub(crate) fn enqueue_in_place(
-        &mut self,
-        request: Request,
-        message: &[u8],
-        block: u64,
-        now_ms: u64,
-        store: &mut [u8],
-        words: &[u64],
-    ) -> Result<TransferToken, Error>
-        ensures { wrote (self.new, result) (lent store.new words.now) ≡ definition.enqueue_of self.old (lent store.old words.now) request message.now block now_ms }
-    {
-        self.admit(block, now_ms, store, words)?;
-        let grant = self.table.grant(request, message)?;
-        Ok(self.accept(request, message, grant, store))
     }
 }

@@ -28,8 +28,10 @@ ghost use Rattle.transfer.specs.Refresh.{refresh_waiting_of};
 ghost use Rattle.transfer.specs.Queries.{can_enqueue_of, identity_for_echo_of, radio_active_of, ready_of, contains_of, pop_event_of, pending_of};
 ghost use Rattle.sender.specs.View.{lent, wrote};
 
+use clock::is_short;
 use rach::MobileIdentity;
 use receiver::ArqStatus;
+use spach::SpachError;
 use std::marker::Model;
 pub use table::Table;
 use transfer::constants::ECHO_VALUES;
@@ -82,6 +84,15 @@ impl Sender {
         })
     }
 
+    // A second one of the same state. (`clone` answers a Result: it may run out of memory in general; this can't.)
+    pub fn copy(&self) -> Sender
+        ensures { result ≡ self.now }
+    {
+        Sender {
+            table: self.table.copy(),
+        }
+    }
+
     // What it is made of, to be shown.
     pub fn table(&self) -> &Table
         ensures { view_of result.now ≡ self.now }
@@ -100,6 +111,7 @@ impl Sender {
             && self.table.echoes.any_free(now_ms)
     }
 
+    #[tactic(auto, unfolding(transfer::specs::Enqueue::enqueue_of))]
     pub fn enqueue(
         mut self,
         request: Request,
@@ -111,10 +123,19 @@ impl Sender {
     ) -> (Self, Result<TransferToken, Error>)
         ensures { wrote result (lent store.new words.now) ≡ enqueue_of self (lent store.old words.now) request message.now block now_ms }
     {
-        let answer = self.enqueue_in_place(request, message, block, now_ms, store, words);
-        (self, answer)
+        if let Err(error) = self.admit(block, now_ms, store, words) {
+            return (self, Err(error));
+        }
+        match self.table.grant(request, message) {
+            Ok(grant) => {
+                let owner = self.accept(request, message, grant, store);
+                (self, Ok(owner))
+            }
+            Err(error) => (self, Err(error)),
+        }
     }
 
+    #[tactic(auto, unfolding(transfer::specs::Advance::advance_of, transfer::specs::Advance::walked))]
     pub fn advance(
         mut self,
         block: u64,
@@ -124,10 +145,14 @@ impl Sender {
     ) -> (Self, Result<(), Error>)
         ensures { left refusal_of result ≡ advance_of self (lent store.now words.now) block now_ms }
     {
-        let answer = self.advance_in_place(block, now_ms, store, words);
-        (self, answer)
+        if let Err(error) = self.admit(block, now_ms, store, words) {
+            return (self, Err(error));
+        }
+        self.walk(None);
+        (self, Ok(()))
     }
 
+    #[tactic(auto, unfolding(transfer::specs::Prepare::prepare_of, transfer::specs::Advance::walked))]
     pub fn prepare(
         mut self,
         block: u64,
@@ -137,8 +162,12 @@ impl Sender {
     ) -> (Self, Result<Option<PreparedFrame>, Error>)
         ensures { left refusal_of result ≡ prepare_of self (lent store.now words.now) block now_ms }
     {
-        let answer = self.prepare_in_place(block, now_ms, store, words);
-        (self, answer)
+        if let Err(error) = self.admit(block, now_ms, store, words) {
+            return (self, Err(error));
+        }
+        self.walk(None);
+        let prepared = self.choose(store);
+        (self, prepared)
     }
 
     pub fn has_echo(&self, echo: u8) -> bool
@@ -148,6 +177,7 @@ impl Sender {
     }
 
     // Whether a transfer has this echo; its restart is then asked for.
+    #[tactic(auto, using(crate::proofs::Asked::interrupt_found, crate::proofs::Asked::interrupt_none), unfolding(transfer::specs::Prepare::interrupt_of))]
     pub fn interrupt(
         mut self,
         echo: u8,
@@ -158,10 +188,17 @@ impl Sender {
     ) -> (Self, Result<bool, Error>)
         ensures { left refusal_of result ≡ interrupt_of self (lent store.now words.now) echo block now_ms }
     {
-        let answer = self.interrupt_in_place(echo, block, now_ms, store, words);
-        (self, answer)
+        if let Err(error) = self.admit(block, now_ms, store, words) {
+            return (self, Err(error));
+        }
+        let Some(place) = self.table.place_of_echo(echo) else {
+            return (self, Ok(false));
+        };
+        self.walk(Some(place));
+        (self, Ok(true))
     }
 
+    #[tactic(auto, unfolding(transfer::specs::Prepare::prepare_prioritized_of, transfer::specs::Advance::walked))]
     pub fn prepare_prioritized(
         mut self,
         echo: u8,
@@ -172,10 +209,16 @@ impl Sender {
     ) -> (Self, Result<Option<PreparedFrame>, Error>)
         ensures { left refusal_of result ≡ prepare_prioritized_of self (lent store.now words.now) echo block now_ms }
     {
-        let answer = self.prioritize_in_place(echo, block, now_ms, store, words);
-        (self, answer)
+        if let Err(error) = self.admit(block, now_ms, store, words) {
+            return (self, Err(error));
+        }
+        self.walk(None);
+        let prepared = self.prioritize(echo, store);
+        (self, prepared)
     }
 
+    // It takes no token, so it does not ask for 18.
+    #[tactic(auto, unfolding(transfer::specs::Submitted::submitted_of))]
     pub fn submitted(
         mut self,
         token: FrameToken,
@@ -186,8 +229,14 @@ impl Sender {
     ) -> (Self, Result<(), Error>)
         ensures { wrote result (lent store.now words.new) ≡ submitted_of self (lent store.now words.old) token block now_ms }
     {
-        let answer = self.submit_in_place(token, block, now_ms, store, words);
-        (self, answer)
+        if is_short(store, words) {
+            return (self, Err(SpachError::Room.into()));
+        }
+        if let Err(error) = self.tick(block, now_ms) {
+            return (self, Err(error));
+        }
+        let submitted = self.hand_in(token, words);
+        (self, submitted)
     }
 
     // By the token's generation alone.
@@ -197,7 +246,7 @@ impl Sender {
     {
         let place = self.table.place_of_generation(token.generation)?;
         let x = self.table.transfers[place];
-        if full(x.parcel.frames.get(), went_out(x.sets)) {
+        if full(x.parcel.frames, went_out(x.sets)) {
             Some(x.parcel.completion)
         } else {
             None
@@ -205,6 +254,7 @@ impl Sender {
     }
 
     // Whether the frame was in flight, and whether all frames are transmitted with it (01: `completed`).
+    #[tactic(auto, unfolding(transfer::specs::Submitted::transmitted_of))]
     pub fn transmitted(
         mut self,
         token: FrameToken,
@@ -215,10 +265,14 @@ impl Sender {
     ) -> (Self, Result<Option<bool>, Error>)
         ensures { left refusal_of result ≡ transmitted_of self (lent store.now words.now) token block now_ms }
     {
-        let answer = self.confirm_in_place(token, block, now_ms, store, words);
-        (self, answer)
+        if let Err(error) = self.admit(block, now_ms, store, words) {
+            return (self, Err(error));
+        }
+        let confirmed = self.confirm(token, words);
+        (self, Ok(confirmed))
     }
 
+    #[tactic(auto, unfolding(transfer::specs::Status::status_of, transfer::specs::Advance::walked))]
     pub fn status(
         mut self,
         status: ArqStatus,
@@ -229,41 +283,40 @@ impl Sender {
     ) -> (Self, Result<bool, Error>)
         ensures { left refusal_of result ≡ status_of self (lent store.now words.now) status block now_ms }
     {
-        let answer = self.status_in_place(status, block, now_ms, store, words);
-        (self, answer)
+        if let Err(error) = self.admit(block, now_ms, store, words) {
+            return (self, Err(error));
+        }
+        self.walk(None);
+        let heard = self.hear(status);
+        (self, Ok(heard))
     }
 
     // Whether there was a transfer to this identity.
     #[tactic(auto, unfolding(transfer::specs::Cancel::cancel_of))]
-    pub fn cancel(mut self, identity: MobileIdentity) -> (Self, bool)
+    pub fn cancel(self, identity: MobileIdentity) -> (Self, bool)
         ensures { says result.1 result.0 ≡ cancel_of self identity }
     {
-        let Some(place) = self.table.place_of_identity(identity) else {
-            return (self, false);
-        };
-        self.cancel_at(place);
-        (self, true)
+        let place = self.table.place_of_identity(identity);
+        self.cancel_found(place)
     }
 
     // Whether there was a transfer of this token.
     #[tactic(auto, unfolding(transfer::specs::Cancel::cancel_transaction_of))]
-    pub fn cancel_transaction(mut self, token: TransferToken) -> (Self, bool)
+    pub fn cancel_transaction(self, token: TransferToken) -> (Self, bool)
         ensures { says result.1 result.0 ≡ cancel_transaction_of self token }
     {
-        let Some(place) = self.table.place_of_owner(token) else {
-            return (self, false);
-        };
-        self.cancel_at(place);
-        (self, true)
+        let place = self.table.place_of_owner(token);
+        self.cancel_found(place)
     }
 
     pub fn cancel_all(mut self) -> Self
         ensures { result ≡ cancel_all_of self }
     {
-        self.cancel_each();
+        self.table.cancel_each();
         self
     }
 
+    #[tactic(auto, unfolding(transfer::specs::Refresh::refresh_waiting_of, transfer::specs::Advance::walked))]
     pub fn refresh_waiting(
         mut self,
         block: u64,
@@ -273,8 +326,12 @@ impl Sender {
     ) -> (Self, Result<(), Error>)
         ensures { left refusal_of result ≡ refresh_waiting_of self (lent store.now words.now) block now_ms }
     {
-        let answer = self.refresh_in_place(block, now_ms, store, words);
-        (self, answer)
+        if let Err(error) = self.admit(block, now_ms, store, words) {
+            return (self, Err(error));
+        }
+        self.walk(None);
+        self.refresh();
+        (self, Ok(()))
     }
 
     // Of the first transfer of this echo.

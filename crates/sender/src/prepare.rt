@@ -92,33 +92,4 @@ impl Sender {
         }
         self.choose(store)
     }
-
-    pub(crate) fn prepare_in_place(
-        &mut self,
-        block: u64,
-        now_ms: u64,
-        store: &[u8],
-        words: &[u64],
-    ) -> Result<Option<PreparedFrame>, Error>
-        ensures { left refusal_of (self.new, result) ≡ definition.prepare_of self.old (lent store.now words.now) block now_ms }
-    {
-        self.admit(block, now_ms, store, words)?;
-        self.walk(None);
-        self.choose(store)
-    }
-
-    pub(crate) fn prioritize_in_place(
-        &mut self,
-        echo: u8,
-        block: u64,
-        now_ms: u64,
-        store: &[u8],
-        words: &[u64],
-    ) -> Result<Option<PreparedFrame>, Error>
-        ensures { left refusal_of (self.new, result) ≡ definition.prepare_prioritized_of self.old (lent store.now words.now) echo block now_ms }
-    {
-        self.admit(block, now_ms, store, words)?;
-        self.walk(None);
-        self.prioritize(echo, store)
-    }
 }

@@ -2,6 +2,7 @@
 // Ported from runtime/spach_arq.rs (chrismoos/136-bts 7c60b63bf4, Apache-2.0) and changed: see NOTICE.
 ghost use Rattle.std.specs.Prelude.{◌≡◌, ◌≤◌, ◌<◌, IfSome, length, unwrap_or};
 ghost use Rattle.spach.specs.Refusal.{left};
+ghost use Rattle.transfer.specs.Invariant.{Sound};
 ghost use Rattle.transfer.specs.Numbers.{refusal_of};
 ghost use Rattle.transfer.specs.Refresh as definition;
 ghost use Rattle.sender.specs.View.{lent};
@@ -36,6 +37,7 @@ impl Table {
     // Each transfer that waits has its last frame queued again.
     #[tactic(auto, unfolding(transfer::specs::Refresh::queue_waiting))]
     fn queue_waiting(&mut self)
+        requires { Sound (view_of self.old) }
         ensures { view_of self.new ≡ definition.queue_waiting (view_of self.old) }
     {
         let block = self.clock.last_block;
@@ -61,19 +63,11 @@ impl Table {
 }
 
 impl Sender {
-    pub(crate) fn refresh_in_place(
-        &mut self,
-        block: u64,
-        now_ms: u64,
-        store: &[u8],
-        words: &[u64],
-    ) -> Result<(), Error>
-        ensures { left refusal_of (self.new, result) ≡ definition.refresh_waiting_of self.old (lent store.now words.now) block now_ms }
+    // The waiting ones are queued again, and the oldest that is ready goes to the front.
+    pub(crate) fn refresh(&mut self)
+        ensures { self.new ≡ definition.serve_oldest (definition.queue_waiting self.old) }
     {
-        self.admit(block, now_ms, store, words)?;
-        self.walk(None);
         self.table.queue_waiting();
         self.table.serve_oldest();
-        Ok(())
     }
 }

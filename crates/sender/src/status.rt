@@ -33,19 +33,4 @@ impl Sender {
         self.walk(None);
         true
     }
-
-    pub(crate) fn status_in_place(
-        &mut self,
-        status: ArqStatus,
-        block: u64,
-        now_ms: u64,
-        store: &[u8],
-        words: &[u64],
-    ) -> Result<bool, Error>
-        ensures { left refusal_of (self.new, result) ≡ status_of self.old (lent store.now words.now) status block now_ms }
-    {
-        self.admit(block, now_ms, store, words)?;
-        self.walk(None);
-        Ok(self.hear(status))
-    }
 }

@@ -77,36 +77,4 @@ impl Sender {
         self.walk(None);
         Some(all_transmitted(&y))
     }
-
-    // It takes no token, so it does not ask for 18.
-    pub(crate) fn submit_in_place(
-        &mut self,
-        token: FrameToken,
-        block: u64,
-        now_ms: u64,
-        store: &[u8],
-        words: &mut [u64],
-    ) -> Result<(), Error>
-        ensures { wrote (self.new, result) (lent store.now words.new) ≡ definition.submitted_of self.old (lent store.now words.old) token block now_ms }
-    {
-        if is_short(store, words) {
-            return Err(Error::Wire(SpachError::Room));
-        }
-        self.tick(block, now_ms)?;
-        self.hand_in(token, words)
-    }
-
-    pub(crate) fn confirm_in_place(
-        &mut self,
-        token: FrameToken,
-        block: u64,
-        now_ms: u64,
-        store: &[u8],
-        words: &[u64],
-    ) -> Result<Option<bool>, Error>
-        ensures { left refusal_of (self.new, result) ≡ definition.transmitted_of self.old (lent store.now words.now) token block now_ms }
-    {
-        self.admit(block, now_ms, store, words)?;
-        Ok(self.confirm(token, words))
-    }
 }

@@ -52,6 +52,24 @@ impl Table {
         }
     }
 
+    pub(crate) fn copy(&self) -> Table
+        ensures { view_of result ≡ view_of self.now }
+    {
+        let mut transfers = ArrayVec::new();
+        transfers.try_extend_from_slice(&self.transfers).unwrap();
+        let mut events = ArrayVec::new();
+        events.try_extend_from_slice(&self.events).unwrap();
+        Table {
+            limits: self.limits,
+            clock: self.clock,
+            transfers,
+            events,
+            echoes: self.echoes,
+            selected: self.selected,
+            next_token: self.next_token,
+        }
+    }
+
     // ---- the place of the first transfer that is sought: the library's search, each with its own test
 
     // One search for all, the test handed in, was tried: each of the nine callers then proves which definition it hands in.

@@ -26,6 +26,7 @@ impl Table {
     // A transfer begins again under a free echo; with none free it is Failed.
     fn restart(&mut self, x: &Transfer) -> Option<Transfer>
         requires room { length self.old.events.items < 256 }
+        requires frames { x.now.parcel.frames ≤ 27 }
         requires fits { x.now.parcel.deadline_ms + self.old.limits.echo_guard_ms ≤ stop }
         ensures step { (before : List transfers.Transfer) → advance.restart (with_transfers (view_of self.old) before) x.now (free_echo self.old.echoes self.old.clock.last_ms)
             ≡ with_transfers (view_of self.new) (before ++ option_to_list result) }
@@ -53,6 +54,7 @@ impl Table {
     #[tactic(auto, unfolding(transfer::specs::Advance::step))]
     fn turn(&mut self, asked: bool, x: &Transfer) -> Option<Transfer>
         requires room { length self.old.events.items < 256 }
+        requires frames { (1 ≤ x.now.parcel.frames) × (x.now.parcel.frames ≤ 27) }
         requires fits { x.now.parcel.deadline_ms + self.old.limits.echo_guard_ms ≤ stop }
         ensures step { (before : List transfers.Transfer) → advance.step (with_transfers (view_of self.old) before) (asked, x.now)
             ≡ with_transfers (view_of self.new) (before ++ option_to_list result) }
@@ -96,38 +98,5 @@ impl Sender {
         ensures tokens { self.new.next_token ≤ self.old.next_token + 128 }
     {
         self.table.walk(asked);
-    }
-
-    pub(crate) fn advance_in_place(
-        &mut self,
-        block: u64,
-        now_ms: u64,
-        store: &[u8],
-        words: &[u64],
-    ) -> Result<(), Error>
-        ensures { left refusal_of (self.new, result) ≡ advance.advance_of self.old (lent store.now words.now) block now_ms }
-    {
-        self.admit(block, now_ms, store, words)?;
-        self.walk(None);
-        Ok(())
-    }
-
-    // Whether a transfer has this echo; its restart is then asked for.
-    pub(crate) fn interrupt_in_place(
-        &mut self,
-        echo: u8,
-        block: u64,
-        now_ms: u64,
-        store: &[u8],
-        words: &[u64],
-    ) -> Result<bool, Error>
-        ensures { left refusal_of (self.new, result) ≡ interrupt_of self.old (lent store.now words.now) echo block now_ms }
-    {
-        self.admit(block, now_ms, store, words)?;
-        let Some(place) = self.table.place_of_echo(echo) else {
-            return Ok(false);
-        };
-        self.walk(Some(place));
-        Ok(true)
     }
 }

@@ -1,15 +1,13 @@
 -- The library's searches are the definitions': the place of the first element that passes, and what is found there. Assumes nothing.
-use mathlib.Core.Path.{◌≡◌, refl, sym, ap, subst, ◌∙◌}
+use mathlib.Core.Path.{◌≡◌, refl, sym, ap, ◌∙◌}
 use mathlib.Core.Bool.{Bool, true, false, cond}
 use mathlib.Core.List.{List, ◌++◌}
 use Prim.Native.Nat.{ℕ, ◌+◌, ◌%◌, ◌<◌}
 use native.Mathlib.Omega.{arith}
-use borrow.Author.Tests.{ltb-true}
 use lib.Dec.{ltb}
 use lib.ListN.{length, take, drop, get_or}
 use Rattle.std.specs.Prelude.{Option, None, Some}
 use Rattle.std.specs.List as list
-use Rattle.std.proofs.lemmas.List.{get_or_default}
 use Rattle.std.proofs.lemmas.List.Recursion.{is_position_or_len}
 use Rattle.transfer.specs.declared.Transfer.{Transfer}
 use Rattle.transfer.specs.Lists.{position}
@@ -37,17 +35,16 @@ place_none p l e = go (ltb (position p l) (length l)) refl (sym (place_is p l) �
     go true t q = cc
     go false t q = t
 
--- what is said of the transfer at a place that was found, whatever else would be read there; and where there is none
+-- what is said of the transfer at a place that was found, and where there is none
 module _ {A : Type 0} (p : Transfer → Bool) (l : List Transfer) (nothing : A) (found : ℕ → Transfer → A) where
-  pub seek_at : {i : ℕ} → Some i ≡ list.position p l → (d : Transfer) → found i (get_or l i d) ≡ seek p l nothing found
-  seek_at {i} e d =
+  pub seek_at : {i : ℕ} → Some i ≡ list.position p l → found i (get_or l i blank_transfer) ≡ seek p l nothing found
+  seek_at e =
       let q = place_found p l (sym e) in
-      let lt : i < length l = subst (λ (j : ℕ). j < length l) q.0 (ltb-true (position p l) (length l) q.1) in
-      rw (q.1, q.0, get_or_default l i d blank_transfer lt)
+      rw (q.1, q.0)
 
-  -- of what the code read there
-  pub seek_there : {i : ℕ} {m : List Transfer} {x : Transfer} → Some i ≡ list.position p l → m ≡ l → x ≡ get_or m i x → found i x ≡ seek p l nothing found
-  seek_there {i} {m} {x} e q is = ap (found i) (is ∙ ap (λ (n : List Transfer). get_or n i x) q) ∙ seek_at e x
+  -- of one that stands there
+  pub seek_there : {i : ℕ} {x : Transfer} → Some i ≡ list.position p l → x ≡ get_or l i blank_transfer → found i x ≡ seek p l nothing found
+  seek_there {i} e is = ap (found i) is ∙ seek_at e
 
   pub seek_none : None ≡ list.position p l → nothing ≡ seek p l nothing found
   seek_none e = rw (place_none p l (sym e))

@@ -22,9 +22,10 @@ pub fn went_out(sets: Sets) -> u32
 
 // The last frame queued again.
 pub fn last_queued(x: Transfer) -> Transfer
+    requires { (1 ≤ x.parcel.frames) × (x.parcel.frames ≤ 27) }
     ensures { result ≡ model.last_queued x }
 {
-    let queue = frame_alone(usize::from(x.parcel.frames.get() - 1));
+    let queue = frame_alone(usize::from(x.parcel.frames - 1));
     Transfer {
         sets: Sets { queue, ..x.sets },
         ..x
@@ -33,6 +34,7 @@ pub fn last_queued(x: Transfer) -> Transfer
 
 // If nothing is queued or in flight and a frame was submitted, the last is queued again.
 pub fn repeated(x: Transfer) -> Transfer
+    requires { (1 ≤ x.parcel.frames) × (x.parcel.frames ≤ 27) }
     ensures { result ≡ prepare.repeated x }
 {
     if idle(x.sets) && x.blocks.last_frame.is_some() {
@@ -44,6 +46,7 @@ pub fn repeated(x: Transfer) -> Transfer
 
 // If nothing is queued or in flight 16 blocks after the last frame was submitted, the last is queued again.
 pub fn refreshed(block: u64, x: Transfer) -> Transfer
+    requires { (1 ≤ x.parcel.frames) × (x.parcel.frames ≤ 27) }
     ensures { result ≡ refresh.refreshed block x }
 {
     if idle(x.sets) && passed(REFRESH_BLOCKS, block, x.blocks.last_frame) {
@@ -94,10 +97,10 @@ pub fn in_flight(frame: usize, block: u64, x: Transfer) -> Transfer
 
 // The token's frame is in flight, under its submission.
 pub fn is_outstanding(token: FrameToken, words: &[u64], x: &Transfer) -> bool
-    requires { 27 * x.now.parcel.n + 27 ≤ length words.now }
+    requires { (x.now.parcel.frames ≤ 27) × (27 * x.now.parcel.n + 27 ≤ length words.now) }
     ensures { result ≡ submitted.is_outstanding token words.now x.now }
 {
-    token.frame < usize::from(x.parcel.frames.get())
+    token.frame < usize::from(x.parcel.frames)
         && has(x.sets.in_flight, token.frame)
         && words[MESSAGE_WORDS * usize::from(x.parcel.n) + token.frame] == token.submission.0
 }

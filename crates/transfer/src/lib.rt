@@ -7,7 +7,6 @@ pub mod constants;
 pub mod echo;
 pub mod effects;
 pub mod frame;
-pub mod frame_count;
 pub mod queue;
 pub mod settling;
 pub mod store;
@@ -17,7 +16,6 @@ ghost use Rattle.transfer.specs.Numbers.{refusal_of};
 ghost use Rattle.transfer.specs.Apart.{refusals_apart};
 ghost use Rattle.transfer.specs.declared.Error.TheVariants.{Wire};
 
-use frame_count::FrameCount;
 use rach::MobileIdentity;
 use spach::{Channel, Numbered, SpachError};
 
@@ -122,7 +120,7 @@ pub struct Request {
 // What a request that is not refused is given.
 #[derive(Clone, Copy, Debug, PartialEq, Eq)]
 pub struct Grant {
-    pub frames: FrameCount,
+    pub frames: u8,
     pub echo: u8,
 }
 
@@ -136,7 +134,7 @@ pub struct Parcel {
     pub owner: TransferToken,
     pub channel: Channel,
     pub octets: u8,
-    pub frames: FrameCount,
+    pub frames: u8,
     pub n: u8,
 }
 
@@ -178,7 +176,7 @@ impl Default for Transfer {
             owner: TransferToken(0),
             channel: Channel::Arch,
             octets: 0,
-            frames: FrameCount::new(1),
+            frames: 0,
             n: 0,
         };
         settling::begun(parcel, 0, 0)

@@ -1,6 +1,6 @@
 // A transfer by itself: when it is done, how it settles, when it restarts and how it begins.
 // Ported from runtime/spach_arq.rs (chrismoos/136-bts 7c60b63bf4, Apache-2.0) and changed: see NOTICE.
-ghost use Rattle.std.specs.Prelude.{◌&&◌, ◌≡◌};
+ghost use Rattle.std.specs.Prelude.{◌&&◌, ◌≡◌, ◌≤◌};
 ghost use Rattle.transfer.specs.Queue as queues;
 ghost use Rattle.transfer.specs.Transfer as model;
 
@@ -25,28 +25,30 @@ pub fn idle(sets: Sets) -> bool
 pub fn all_transmitted(x: &Transfer) -> bool
     ensures { result ≡ model.all_transmitted x.now }
 {
-    full(x.parcel.frames.get(), x.sets.transmitted)
+    full(x.parcel.frames, x.sets.transmitted)
 }
 
 // A status came, nothing is in flight, every frame is transmitted and every Continue observed.
 #[tactic(auto, unfolding(crate::specs::Transfer::done_of))]
 pub fn done_of(x: &Transfer) -> bool
+    requires { 1 ≤ x.now.parcel.frames }
     ensures { result ≡ model.done_of x.now }
 {
     x.sets.received_status
         && x.sets.in_flight == 0
         && all_transmitted(x)
-        && full(x.parcel.frames.get() - 1, x.sets.observed)
+        && full(x.parcel.frames - 1, x.sets.observed)
 }
 
 pub fn begun(parcel: Parcel, echo: u8, generation: u64) -> Transfer
+    requires { parcel.frames ≤ 27 }
     ensures { result ≡ model.begun parcel echo generation }
 {
     Transfer {
         parcel,
         generation: Generation(generation),
         sets: Sets {
-            queue: first_frames(parcel.frames.get()),
+            queue: first_frames(parcel.frames),
             in_flight: 0,
             transmitted: 0,
             observed: 0,
@@ -63,9 +65,10 @@ pub fn begun(parcel: Parcel, echo: u8, generation: u64) -> Transfer
 
 // The Continues that are not observed are queued again, and the status is used up.
 pub fn requeued(x: Transfer) -> Transfer
+    requires { x.parcel.frames ≤ 27 }
     ensures { result ≡ model.requeued x }
 {
-    let queue = without(continues_of(x.parcel.frames.get()), x.sets.observed);
+    let queue = without(continues_of(x.parcel.frames), x.sets.observed);
     Transfer {
         sets: Sets {
             queue,
@@ -97,6 +100,7 @@ pub fn waits(block: u64, x: Transfer) -> Transfer
 // With frames queued or in flight, or when done, it stays as it is.
 #[tactic(auto, unfolding(crate::specs::Transfer::settle_of))]
 pub fn settle(block: u64, x: Transfer) -> Transfer
+    requires { (1 ≤ x.parcel.frames) × (x.parcel.frames ≤ 27) }
     ensures { result ≡ model.settle_of block x }
 {
     if !idle(x.sets) || done_of(&x) {

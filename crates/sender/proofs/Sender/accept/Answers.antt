@@ -6,7 +6,7 @@ use Rattle.transfer.specs.Invariant.{Sound}
 use Rattle.transfer.specs.State.{with_echoes}
 use Rattle.transfer.proofs.Calls.{accepts-kept}
 use Rattle.sender.specs.View.{view_of, lent}
-use Rattle.sender.proofs.Granted.{accept_until, accept_echo, accept_octets, holding_sound, alone_room, alone_place, accept_leaves}
+use Rattle.sender.proofs.Granted.{accept_until, accept_echo, accept_octets, accept_frames, holding_sound, alone_room, alone_place, accept_leaves}
 use Rattle.sender.proofs.Sender.accept.Goals as goal
 
 pub overflow_add-until : goal.overflow_add-until
@@ -36,7 +36,7 @@ newcomer-requires c =
     let r = c.args.request in
     let given = rw (← c.self.view_is) at c.requires.granted in
     let w = c.replace.ensures ∙ ap (λ e. replaced (with_echoes v e) r.identity) c.hold.ensures in
-    (accept_octets v r c.args.message.now c.args.grant c.self.invariant given, alone_place v r c.args.message.now c.args.grant c.self.invariant given w c.lowest_place-n.ensures)
+    (accept_octets v r c.args.message.now c.args.grant c.self.invariant given, accept_frames v r c.args.message.now c.args.grant c.self.invariant given, alone_place v r c.args.message.now c.args.grant c.self.invariant given w c.lowest_place-n.ensures)
 
 pub push-requires : goal.push-requires
 push-requires c =

@@ -1,7 +1,7 @@
 -- `sender::Sender::confirm` meets its contract. Assumes nothing.
-use Rattle.std.proofs.Common.{◌∙◌, ap, sym, Some, arith}
+use Rattle.std.proofs.Common.{◌∙◌, ap, sym, get_or, Some, arith}
 use Rattle.transfer.specs.Advance.{walked}
-use Rattle.transfer.specs.State.{put_at, says}
+use Rattle.transfer.specs.State.{blank_transfer, put_at, says}
 use Rattle.transfer.specs.Submitted.{confirm_frame}
 use Rattle.transfer.specs.Transfer.{all_transmitted}
 use Rattle.transfer.proofs.Calls.{put-confirmed-kept}
@@ -16,32 +16,33 @@ returns-in_err-place c = rw (c.from_residual.ensures, ← c.self.view_is) (confi
 
 pub is_outstanding-requires : goal.is_outstanding-requires
 is_outstanding-requires c =
-    words_room (view_of c.self.inside.table) c.deref.ensures.0 c.index-deref-place.is c.args.words.now c.args.token c.in_ok-place.ensures.within c.self.invariant c.requires.room
+    words_room (view_of c.self.inside.table) (there _ c.deref.ensures.0) c.args.words.now c.args.token c.in_ok-place.ensures.within c.self.invariant c.requires.room
 
 pub returns-then-not-is_outstanding : goal.returns-then-not-is_outstanding
 returns-then-not-is_outstanding c =
     rw (← c.self.view_is)
-    (confirmed_lost (view_of c.self.inside.table) c.deref.ensures.0 c.index-deref-place.is c.args.words.now c.args.token c.in_ok-place.ensures.place (sym c.if-not-is_outstanding.ensures))
+    (confirmed_lost (view_of c.self.inside.table) (there _ c.deref.ensures.0) c.args.words.now c.args.token c.in_ok-place.ensures.place (sym c.if-not-is_outstanding.ensures))
 
 pub confirm_frame-y-requires : goal.confirm_frame-y-requires
 confirm_frame-y-requires c =
-    let low = outstanding_low (view_of c.self.inside.table) c.deref.ensures.0 c.index-deref-place.is c.args.words.now c.args.token c.in_ok-place.ensures.within c.self.invariant (sym c.if-not-is_outstanding.ensures) in
+    let low = outstanding_low (view_of c.self.inside.table) (there _ c.deref.ensures.0) c.args.words.now c.args.token c.in_ok-place.ensures.within c.self.invariant (sym c.if-not-is_outstanding.ensures) in
     omega arith
 
 pub invariant_of-self : goal.invariant_of-self
 invariant_of-self c =
     let v = view_of c.self.inside.table in
     let t = c.args.token in
-    let x = c.index-deref-place.result in
+    let x = get_or c.deref.result.now c.in_ok-place.place blank_transfer in
     let lt = c.in_ok-place.ensures.within in
     let low = outstanding_frame t c.args.words.now x (sym c.if-not-is_outstanding.ensures) in
-    rw (c.put.ensures, c.confirm_frame-y.ensures) (put-confirmed-kept v c.in_ok-place.place t.frame x lt (there v c.deref.ensures.0 c.index-deref-place.is lt) low c.self.invariant)
+    rw (c.put.ensures, c.confirm_frame-y.ensures) (put-confirmed-kept v c.in_ok-place.place t.frame x lt (there _ c.deref.ensures.0) low c.self.invariant)
 
 pub returns : goal.returns
 unfolding walked
 returns c =
     let v = view_of c.self.inside.table in
+    let x = get_or c.deref.result.now c.in_ok-place.place blank_transfer in
     let y = c.confirm_frame-y.ensures in
     ap (says (Some c.all_transmitted.result)) (c.walk.ensures.walked ∙ ap walked (c.put.ensures ∙ ap (put_at v c.in_ok-place.place) y))
-    ∙ (ap (λ b. says (Some b) (walked (put_at v c.in_ok-place.place (confirm_frame c.args.token.frame c.index-deref-place.result)))) (c.all_transmitted.ensures ∙ ap all_transmitted y)
-    ∙ rw (← c.self.view_is) (confirmed_found v c.deref.ensures.0 c.index-deref-place.is c.args.words.now c.args.token c.in_ok-place.ensures.place (sym c.if-not-is_outstanding.ensures)))
+    ∙ (ap (λ b. says (Some b) (walked (put_at v c.in_ok-place.place (confirm_frame c.args.token.frame x)))) (c.all_transmitted.ensures ∙ ap all_transmitted y)
+    ∙ rw (← c.self.view_is) (confirmed_found v (there _ c.deref.ensures.0) c.args.words.now c.args.token c.in_ok-place.ensures.place (sym c.if-not-is_outstanding.ensures)))

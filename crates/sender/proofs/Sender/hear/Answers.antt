@@ -15,18 +15,18 @@ returns-in_default c = rw (← c.self.view_is) (heard_nowhere (view_of c.self.in
 pub returns-then-not-has : goal.returns-then-not-has
 returns-then-not-has c =
     rw (← c.self.view_is)
-    (heard_early (view_of c.self.inside.table) c.deref.ensures.0 c.index-deref-place.is c.args.status c.in-Some.ensures.place (ap (λ o. has o 0) (sym c.went_out.ensures) ∙ sym c.if-not-has.ensures))
+    (heard_early (view_of c.self.inside.table) (there _ c.deref.ensures.0) c.args.status c.in-Some.ensures.place (ap (λ o. has o 0) (sym c.went_out.ensures) ∙ sym c.if-not-has.ensures))
 
 pub invariant_of-self : goal.invariant_of-self
 invariant_of-self c =
     let v = view_of c.self.inside.table in
     let lt = c.in-Some.ensures.within in
     rw (c.put.ensures, c.observe-y.ensures)
-    (put-observed-kept v c.in-Some.place c.args.status.received_frames c.index-deref-place.result lt (there v c.deref.ensures.0 c.index-deref-place.is lt) (ap (λ o. has o 0) (sym c.went_out.ensures) ∙ sym c.if-not-has.ensures) c.self.invariant)
+    (put-observed-kept v c.in-Some.place c.args.status.received_frames _ lt (there _ c.deref.ensures.0) (ap (λ o. has o 0) (sym c.went_out.ensures) ∙ sym c.if-not-has.ensures) c.self.invariant)
 
 pub returns : goal.returns
 unfolding walked
 returns c =
     let v = view_of c.self.inside.table in
     ap (says true) (c.walk.ensures.walked ∙ ap walked (c.put.ensures ∙ ap (put_at v c.in-Some.place) c.observe-y.ensures))
-    ∙ rw (← c.self.view_is) (heard_shown v c.deref.ensures.0 c.index-deref-place.is c.args.status c.in-Some.ensures.place (ap (λ o. has o 0) (sym c.went_out.ensures) ∙ sym c.if-not-has.ensures))
+    ∙ rw (← c.self.view_is) (heard_shown v (there _ c.deref.ensures.0) c.args.status c.in-Some.ensures.place (ap (λ o. has o 0) (sym c.went_out.ensures) ∙ sym c.if-not-has.ensures))

@@ -17,4 +17,4 @@ unfolding identity_for_echo_of
 returns c =
     let v = view_of c.self.inside.table in
     rw (c.deref.ensures.0, ← c.self.view_is)
-    (seek_at (of_echo c.args.echo) v.transfers None (λ place x. Some x.parcel.identity) c.in_ok-place.ensures.place c.index-deref-place.result)
+    (seek_at (of_echo c.args.echo) v.transfers None (λ place x. Some x.parcel.identity) c.in_ok-place.ensures.place)

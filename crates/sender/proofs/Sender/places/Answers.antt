@@ -1,7 +1,7 @@
 -- `sender::Sender::places` meets its contract. Assumes nothing.
 use Rattle.std.proofs.Common.{refl, arith}
 use Rattle.sender.specs.View.{view_of}
-use Rattle.sender.proofs.Found.{place_low}
+use Rattle.sender.proofs.Found.{there, place_low}
 use Rattle.sender.proofs.Granted.{none_taken}
 use Rattle.sender.proofs.Sender.places.Goals as goal
 
@@ -14,5 +14,5 @@ bounds-taken-from c =
     let v = view_of c.self.inside.table in
     let e = c.deref-x-items.ensures.0 in
     let lt = c.loop-x-test.true in
-    let low = place_low v e c.x-item.is (rw (← e) lt) c.self.invariant in
+    let low = place_low v (there c.loop-x.x-index e) (rw (← e) lt) c.self.invariant in
     omega arith
