@@ -35,10 +35,6 @@ use Rattle.procedure.specs.Parts.{accepted, by_answer, decoded, let_through, the
 use Rattle.procedure.proofs.Invariant.{let_through_gives, ignored-same, refused_same}
 use Rattle.procedure.proofs.Parts.{receive_parts}
 
-by_bool : (x : Bool) → (x ≡ true) ⊎ (x ≡ false)
-by_bool true = inl refl
-by_bool false = inr refl
-
 not_first : (a b : Bool) → not a && b ≡ true → a ≡ false
 not_first true b e = sym e
 not_first false b e = refl

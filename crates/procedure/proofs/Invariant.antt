@@ -1,5 +1,6 @@
 -- Each call of the procedure keeps the invariant. Assumes nothing.
 use Rattle.std.proofs.Common.{◌≡◌, ℕ, ◌≤◌, Bool, true, false, cond, ltb, List, length, is_some, Some, None, Ok, Option, Result, sym, refl, ap, ◌∙◌, subst, ltb-false}
+use Rattle.std.proofs.lemmas.Bool.{both_ways}
 use Rattle.receiver.specs.declared.SingleMessage.{SingleMessage}
 use Rattle.receiver.specs.declared.StatusRequest.{StatusRequest}
 use Rattle.token.specs.Token.{fewer_than}
@@ -38,19 +39,16 @@ use Rattle.procedure.specs.Procedure.{Procedure, Sound, new_of, with_timer, ende
 use Rattle.procedure.specs.Parts.{reset_by, timed, ends_unpolled, accepted, by_answer, pushes, decoded, let_through, then_hears}
 use Rattle.procedure.proofs.Parts.{receive_parts}
 
-true_false : {x : Bool} → x ≡ true → x ≡ false → ⊥
-true_false p q = let z : true ≡ false = sym p ∙ q in cc
-
 -- a procedure that holds a transaction may have any timer
 active_sound : (p : Procedure) → Valid p.receiver → I.Sound p.inactivity → active_of p ≡ true → Sound p
 active_sound p v s a = record { receiver = v; inactivity = s; armed = λ h. a }
 
 -- reset
 pub sound_ended : (p : Procedure) → Sound p → Sound (ended p)
-sound_ended p s = record { receiver = valid_reset p.receiver s.receiver; inactivity = K.sound_renewed p.inactivity; armed = λ h. absurd (true_false refl h) }
+sound_ended p s = record { receiver = valid_reset p.receiver s.receiver; inactivity = K.sound_renewed p.inactivity; armed = λ h. absurd (both_ways _ h refl) }
 
 pub sound_made : (i : MobileIdentity) (first : ℕ) {r : ArqReassembler} → R.new_of i ≡ gives r → Sound (record { receiver = r; inactivity = I.new_of first })
-sound_made i first {r} e = record { receiver = valid_new i r e; inactivity = K.sound_new first; armed = λ h. absurd (true_false refl h) }
+sound_made i first {r} e = record { receiver = valid_new i r e; inactivity = K.sound_new first; armed = λ h. absurd (both_ways _ h refl) }
 
 pub sound_new : (i : MobileIdentity) (first : ℕ) {p : Procedure} → new_of i first ≡ gives p → Sound p
 unfolding new_of
@@ -129,7 +127,7 @@ unsolicited_armed : (t : Timer) → I.Sound t → is_idle (unsolicited_at result
 unsolicited_armed t s = go t.state t.unsolicited_pending refl s.pending
   where
     go : (k : State) (x : Bool) → t.state ≡ k → I.PendingFits k x → is_idle (cond x (I.unsolicited_by results.Sent t) (t, actions.None)).0.state ≡ false → is_idle t.state ≡ false
-    go Idle true e f h = absurd (true_false refl f)
+    go Idle true e f h = absurd (both_ways _ f refl)
     go Idle false e f h = h
     go (Waiting since) x e f h = rw e
     go SendingUnsolicited x e f h = rw e
@@ -244,6 +242,3 @@ sound_receive p block xs b h = subst (λ (o : Out). Sound o.procedure) (sym (rec
 -- what equals a definition is as sound as the definition
 pub kept : {A : Type 0} {x y : After A Procedure} → x ≡ y → Sound y.state → (x ≡ y) × Sound x.state
 kept e h = (e, subst Sound (sym (ap (λ o. o.state) e)) h)
-
-pub kept_out : {x y : Out} → x ≡ y → Sound y.procedure → (x ≡ y) × Sound x.procedure
-kept_out e h = (e, subst Sound (sym (ap (λ (o : Out). o.procedure) e)) h)

@@ -22,7 +22,7 @@ pub compared : (j k : ℕ) → (j < k) ⊎ ((j ≡ k) ⊎ (k < j))
 compared j k = ⊎_elim (λ e. inr (inl e)) (⊎_elim inl (λ h. inr (inr h))) (cases_order j k)
 
 -- 2 ^ k has bit k and no other
-bit_here : (k : ℕ) → bit_of (2 ^ k) k ≡ 1
+pub bit_here : (k : ℕ) → bit_of (2 ^ k) k ≡ 1
 bit_here k = let e : 2 ^ k / 2 ^ k ≡ 1 = rw one-mul at (shl-shr 1 k) in rw e
 
 bit_below : (j d : ℕ) → bit_of (2 ^ (suc d + j)) j ≡ 0
@@ -30,7 +30,8 @@ bit_below j d =
     let e : 2 ^ (suc d + j) / 2 ^ j ≡ 2 ^ d * 2 = rw (pow-add 2 (suc d) j, shl-shr (2 ^ suc d) j) (pow-suc 2 d) in
     rw e (mul-mod_left (2 ^ d) 2)
 
-bit_elsewhere : (k j : ℕ) → (j ≡ k → ⊥) → bit_of (2 ^ k) j ≡ 0
+-- it has no other bit
+pub bit_elsewhere : (k j : ℕ) → (j ≡ k → ⊥) → bit_of (2 ^ k) j ≡ 0
 bit_elsewhere k j ne = ⊎_elim (λ e. absurd (ne e)) (⊎_elim below above) (cases_order j k)
   where
     below : j < k → bit_of (2 ^ k) j ≡ 0

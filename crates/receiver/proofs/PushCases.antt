@@ -1,5 +1,5 @@
 -- Each way out of a push, and when it is taken. Assumes nothing.
-use Rattle.std.proofs.Common.{◌≡◌, ℕ, ◌+◌, ◌-◌, ◌*◌, ◌<◌, ◌≤◌, min, Bool, true, false, cond, not, ◌&&◌, eqb, ltb, ◌⊎◌, List, ◌++◌, length, take, drop, Some, None, Option, bytes_eq, sym, refl, ap, ◌∙◌, inl, inr, ⊎_elim, ltb-false, ltb-true, le-ltb, lt-ltb, eq-eqb, eqb-true}
+use Rattle.std.proofs.Common.{◌≡◌, ℕ, ◌+◌, ◌-◌, ◌*◌, ◌<◌, ◌≤◌, min, Bool, true, false, cond, not, eqb, ltb, ◌⊎◌, List, ◌++◌, length, take, drop, Some, None, Option, bytes_eq, sym, refl, ap, ◌∙◌, inl, inr, ⊎_elim, ltb-false, ltb-true, le-ltb, lt-ltb, eq-eqb, eqb-true}
 use Rattle.std.specs.Option.{option_map_or}
 use Rattle.std.proofs.lemmas.Bool.{cases_Bool, both_ways, and_from, cond-true, cond-false, false_from_ne_true, true_from_ne_false}
 use Rattle.std.proofs.lemmas.Slice.Eq.{bytes_eq-Decides}
@@ -26,22 +26,6 @@ use Rattle.receiver.specs.Receiver.{Out, holding, needed, slot_at, replaced_by, 
 use Rattle.receiver.specs.Demand3.{BeginFor}
 
 -- ---- tests
-
--- the library's, in the form in which the crates above cite them
-pub by_bool : (x : Bool) → (x ≡ true) ⊎ (x ≡ false)
-by_bool = cases_Bool
-
-pub true_false : {x : Bool} → x ≡ true → x ≡ false → ⊥
-true_false p q = cc
-
-pub both_true : {a b : Bool} → a ≡ true → b ≡ true → a && b ≡ true
-both_true p q = and_from _ _ p q
-
-pub pick_true : {A : Type 0} {x : Bool} (a b : A) → x ≡ true → cond x a b ≡ a
-pick_true a b e = cond-true _ a b e
-
-pub pick_false : {A : Type 0} {x : Bool} (a b : A) → x ≡ false → cond x a b ≡ b
-pick_false a b e = cond-false _ a b e
 
 -- no frame is of both kinds
 pub kinds_apart : {k : FrameKind} → k ≡ Begin → k ≡ Continue → ⊥

@@ -162,10 +162,6 @@ done-finish f i t b was =
     not_due : due i t ≡ false → t.delivered ≡ eqb (ones t.received_frames) (needed i t)
     not_due e = ⊎_elim (λ d. d ∙ sym (was d)) (λ (d : t.delivered ≡ false). d ∙ sym (rw d at e)) (cases_Bool t.delivered)
 
--- so it is from the start
-pub done-fresh : (i : MobileIdentity) → Done (fresh i)
-done-fresh i t h = absurd (cc)
-
 -- every push keeps it
 pub done_push : (s : ArqReassembler) (xs b : List ℕ) → Valid s → Done s → Done (push_of s xs b).receiver
 done_push s xs b v t = push_ways s xs b (λ o. Done o.receiver) (λ l. t) (λ n e. t) (λ f e. pushed f)

@@ -1,7 +1,5 @@
 -- The readings of the sender's answers tell any two answers apart: nothing of an answer is left free. Assumes nothing.
-use mathlib.Core.Path.{◌≡◌, ap, ap₂}
-use mathlib.Core.Bool.{Bool}
-use Rattle.std.specs.Prelude.{Option, Result}
+use Rattle.std.proofs.Common.{◌≡◌, Bool, Option, Result, ap, ap₂}
 use Rattle.spach.specs.Refusal.{by_number, left}
 use Rattle.spach.proofs.Apart.{answers_apart}
 use Rattle.spach.proofs.Apart as answers

@@ -1,13 +1,6 @@
 -- Laws of a request that is granted, of the transfer that it replaces, and of its place in the lent store. Assumes nothing.
-use mathlib.Core.Path.{◌≡◌, refl, sym, ap, ◌∙◌}
-use mathlib.Core.Bool.{Bool, true, false, cond, not, ◌&&◌}
-use mathlib.Core.List.{List, [], ◌∷◌}
-use Prim.Native.Nat.{ℕ, suc, ◌+◌, ◌≤◌, ◌<◌}
-use native.Mathlib.Omega.{arith}
-use borrow.Author.Tests.{leb-false, ltb-false}
-use lib.Dec.{eqb, leb, ltb}
-use lib.ListN.{length, get_or, replicate, get_or-replicate}
-use Rattle.std.specs.Prelude.{None, Some, Ok, unwrap_or}
+use Rattle.std.proofs.Common.{◌≡◌, ℕ, suc, ◌+◌, ◌<◌, ◌≤◌, Bool, true, false, cond, not, ◌&&◌, eqb, ltb, leb, List, [], ◌∷◌, length, get_or, replicate, Some, None, Ok, unwrap_or, sym, refl, ap, ◌∙◌, arith, ltb-false, leb-false}
+use lib.ListN.{get_or-replicate}
 use Rattle.std.specs.List as list
 use Rattle.token.specs.Token.{stop, number_after}
 use Rattle.rach.specs.declared.MobileIdentity.{MobileIdentity}

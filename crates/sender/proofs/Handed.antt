@@ -1,13 +1,6 @@
 -- A frame handed in: what the code asks on its way, and that what it returns, early or last, is what the definition says. Assumes nothing.
-use mathlib.Core.Path.{◌≡◌, refl}
-use mathlib.Core.Bool.{Bool, true, false, cond, ◌&&◌}
-use mathlib.Core.List.{List}
-use Prim.Native.Nat.{ℕ, zero, suc, ◌+◌, ◌*◌, ◌<◌}
-use native.Mathlib.Omega.{arith}
-use borrow.Author.Tests.{eqb-true, eqb-false, not-true}
-use lib.Dec.{eqb}
-use lib.ListN.{length, get_or, set}
-use Rattle.std.specs.Prelude.{None, Some, Ok}
+use Rattle.std.proofs.Common.{◌≡◌, ℕ, zero, suc, ◌+◌, ◌*◌, ◌<◌, Bool, true, false, cond, ◌&&◌, eqb, List, length, get_or, set, Some, None, Ok, refl, arith, eqb-true}
+use borrow.Author.Tests.{eqb-false, not-true}
 use Rattle.std.specs.List as list
 use Rattle.rach.proofs.Laws.{both}
 use Rattle.transfer.specs.declared.FrameToken.{FrameToken}

@@ -1,11 +1,5 @@
 -- A status, and a frame confirmed: that what the code returns, early or last, is what the definition says. Assumes nothing.
-use mathlib.Core.Path.{◌≡◌}
-use mathlib.Core.Bool.{Bool, true, false, cond}
-use mathlib.Core.List.{List}
-use Prim.Native.Nat.{ℕ, ◌+◌, ◌*◌, ◌<◌, ◌≤◌}
-use native.Mathlib.Omega.{arith}
-use lib.ListN.{length, get_or}
-use Rattle.std.specs.Prelude.{Option, None, Some}
+use Rattle.std.proofs.Common.{◌≡◌, ℕ, ◌+◌, ◌*◌, ◌<◌, ◌≤◌, Bool, true, false, cond, List, length, get_or, Some, None, Option, arith}
 use Rattle.std.specs.List as list
 use Rattle.spach.specs.Refusal.{After}
 use Rattle.receiver.specs.declared.ArqStatus.{ArqStatus}

@@ -1,8 +1,5 @@
 -- What each reading of the sender's answers, fields and lent memory says: every value is told as it is. Assumes nothing.
-use mathlib.Core.Path.{◌≡◌, refl}
-use mathlib.Core.List.{List}
-use Prim.Native.Nat.{ℕ}
-use Rattle.std.specs.Prelude.{Result, Ok, Err}
+use Rattle.std.proofs.Common.{◌≡◌, ℕ, List, Ok, Err, Result, refl}
 use Rattle.spach.specs.Refusal.{gives, refuses, by_number, left}
 use Rattle.transfer.specs.declared.Error.{Error}
 use Rattle.transfer.specs.Numbers.{refusal_of}

@@ -1,13 +1,6 @@
 -- The walk over the live transfers, in place: what holds after i turns, and what a turn makes of it. Assumes nothing.
-use mathlib.Core.Path.{◌≡◌, refl, sym, ap, ◌∙◌}
-use mathlib.Core.Bool.{Bool}
-use mathlib.Core.List.{List, [], ◌∷◌, ◌++◌, foldl}
-use Prim.Native.Nat.{ℕ, suc, ◌+◌, ◌≤◌, ◌<◌}
-use native.Mathlib.Numerals.{add-one}
-use native.Mathlib.Omega.{arith}
-use lib.ListN.{length, take, drop, get_or, set, length-set, drop_of_length-le}
-use lib.Seq.{drop-cons, drop-set-lt, take-suc-set}
-use Rattle.std.specs.Prelude.{Option, None, Some, option_to_list}
+use Rattle.std.proofs.Common.{◌≡◌, ℕ, suc, ◌+◌, ◌<◌, ◌≤◌, Bool, List, [], ◌∷◌, ◌++◌, length, get_or, take, drop, set, Some, None, Option, option_to_list, sym, refl, ap, ◌∙◌, add-one, arith, length-set, drop_of_length-le, drop-cons, take-suc-set, drop-set-lt}
+use mathlib.Core.List.{foldl}
 use Rattle.std.proofs.lemmas.List.{append-nil}
 use Rattle.token.specs.Token.{stop}
 use Rattle.transfer.specs.declared.Transfer.{Transfer}
@@ -34,13 +27,6 @@ pub record Turning (v : View) (asked : Option ℕ) (u : View) (kept i : ℕ) : T
   pub tail : drop i u.transfers ≡ drop i v.transfers
   pub whole : foldl step (with_transfers u (take kept u.transfers)) (drop i (asked_at asked v.transfers)) ≡ foldl step (with_transfers v []) (asked_at asked v.transfers)
 
--- before the first turn
-pub turning_none : (v : View) (asked : Option ℕ) → Sound v → Turning v asked v 0 0
-turning_none v asked h =
-    let a = h.accounted in
-    let b = h.most_capacity in
-    record { low = omega arith; size = refl; room = omega arith; limits = refl; tail = refl; whole = refl }
-
 module _ {v : View} {asked : Option ℕ} {u : View} {kept i : ℕ} (t : Turning v asked u kept i) where
   -- after the last
   pub turned_all : length v.transfers ≤ i → with_transfers u (take kept u.transfers) ≡ foldl step (with_transfers v []) (asked_at asked v.transfers)
@@ -52,10 +38,6 @@ module _ {v : View} {asked : Option ℕ} {u : View} {kept i : ℕ} (t : Turning 
   module _ (lt : i < length v.transfers) where
     within : i < length u.transfers
     within = let s = t.size in omega arith
-
-    -- room for the event of one that ends
-    pub turn_room : length u.events < 256
-    turn_room = let r = t.room in omega arith
 
     -- a place that was passed is free for one that goes on
     pub turn_low : kept < length u.transfers

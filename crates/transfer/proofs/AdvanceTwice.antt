@@ -1,20 +1,11 @@
 -- `settle` before `advance` changes nothing, nor does a second `advance` at the same clock. Assumes nothing.
-use mathlib.Core.Path.{◌≡◌, refl, sym, ap, subst, ◌∙◌}
-use mathlib.Core.Logic.{⊎_elim}
-use mathlib.Core.Bool.{Bool, true, false, cond, not, ◌&&◌, ◌||◌, true≢false}
-use mathlib.Core.List.{List, [], ◌∷◌, ◌++◌, foldl, append_assoc, append-nil}
-use Rattle.std.specs.Prelude.{Option, None, Some}
-use Prim.Native.Nat.{ℕ, zero, suc, ◌-◌, ◌^◌, ◌≤◌, ◌<◌, min}
-use native.Mathlib.Omega.{arith}
+use Rattle.std.proofs.Common.{◌≡◌, ℕ, zero, suc, ◌-◌, ◌^◌, ◌<◌, ◌≤◌, min, Bool, true, false, cond, not, ◌&&◌, ◌||◌, leb, List, [], ◌∷◌, ◌++◌, length, get_or, take, drop, Some, None, Option, sym, refl, ap, ◌∙◌, subst, ⊎_elim, true≢false, append_assoc, append-nil, arith, pow_pos, pow_mono, eq-eqb, ne_eqb, eqb-true}
+use Rattle.std.proofs.lemmas.Bool.{cases_Bool}
+use mathlib.Core.List.{foldl}
 use lib.Count.{ones}
-use lib.Dec.{leb}
-use lib.ListN.{length, take, drop, get_or}
-use lib.Pow.{pow_pos, pow_mono}
 use lib.Seq.{set_split}
-use borrow.Author.Tests.{eqb-true, eq-eqb, ne_eqb}
 use Rattle.receiver.specs.Map.{bit_of}
 use Rattle.receiver.proofs.Maps.{all_ones, bit-or}
-use Rattle.receiver.proofs.PushCases.{by_bool}
 use Rattle.transfer.specs.declared.Fate.{Fate}
 use Rattle.transfer.specs.declared.Fate.TheVariants.{Ends, Restarts, Stays}
 use Rattle.transfer.specs.declared.Parcel.{Parcel}
@@ -110,7 +101,7 @@ module _ (x : Transfer) (s : SetsAgree x) (n : 1 ≤ x.parcel.frames) where
       ⊎_elim
       (λ e. absurd (true≢false (sym (observed-done r (idle_empty x i).1 (eqb-true (without (continues_of x.parcel.frames) x.sets.observed) 0 e)) ∙ d)))
       (λ e. ap (λ (b : Bool). b && is_empty x.sets.in_flight) e)
-      (by_bool (is_empty (without (continues_of x.parcel.frames) x.sets.observed)))
+      (cases_Bool (is_empty (without (continues_of x.parcel.frames) x.sets.observed)))
 
   -- settled twice is settled once
   pub settled_twice : (block : ℕ) → settle_of block (settle_of block x) ≡ settle_of block x

@@ -1,14 +1,8 @@
 -- A live transfer stays live through each change that a call makes to it, and a chosen frame stays chosen. Assumes nothing.
-use Rattle.std.specs.Prelude.{Option, None, Some}
-use mathlib.Core.Path.{◌≡◌, refl, sym, ap, subst, ◌∙◌}
-use mathlib.Core.Bool.{Bool, true, false, cond, not, ◌&&◌, ◌||◌, true≢false}
-use Prim.Native.Nat.{ℕ, zero, suc, ◌-◌, ◌^◌, ◌≤◌, ◌<◌, min}
-use native.Mathlib.Omega.{arith}
-use lib.Bits.{bit_and, bit_or, and_zero_r, and_le_r, or_lt}
-use lib.Pow.{pow-lt, pow_mono, pow_pos}
-use lib.ListN.{length}
-use lib.Seq.{get_or-set_same}
-use borrow.Author.Tests.{eqb-true, eqb-false, eq-eqb, not-true}
+use Rattle.std.proofs.Common.{◌≡◌, ℕ, zero, suc, ◌-◌, ◌^◌, ◌<◌, ◌≤◌, min, Bool, true, false, cond, not, ◌&&◌, ◌||◌, length, bit_and, bit_or, Some, None, Option, sym, refl, ap, ◌∙◌, subst, true≢false, arith, get_or-set_same, pow_pos, pow_mono, eq-eqb, eqb-true}
+use lib.Bits.{and_zero_r, and_le_r, or_lt}
+use lib.Pow.{pow-lt}
+use borrow.Author.Tests.{eqb-false, not-true}
 use Rattle.rach.proofs.Laws.{both}
 use Rattle.arq.proofs.Theorems.{cut_most}
 use Rattle.receiver.specs.Map.{bit_of, with_bit}

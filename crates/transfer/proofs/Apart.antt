@@ -1,6 +1,5 @@
 -- Two errors of the sender that have one number are the same (specs/Apart.antt), and so are two events that are read alike. Assumes nothing.
-use mathlib.Core.Path.{◌≡◌, refl, ap}
-use Rattle.std.specs.Prelude.{Option, None, Some}
+use Rattle.std.proofs.Common.{◌≡◌, Some, None, Option, refl, ap}
 use Rattle.transfer.specs.declared.Event.{Event}
 use Rattle.transfer.specs.declared.Event.TheVariants as events
 use Rattle.transfer.specs.Numbers.{Ending, complete, expired, cancelled, failed, ending_of, next_of}

@@ -1,12 +1,6 @@
 -- A search finds where some element passes. Assumes nothing.
-use mathlib.Core.Path.{◌≡◌, refl, sym, ◌∙◌}
-use mathlib.Core.Bool.{Bool, true, false, cond, ◌||◌}
-use mathlib.Core.List.{List, [], ◌∷◌}
-use Prim.Native.Nat.{suc}
-use native.Mathlib.Omega.{arith}
-use borrow.Author.Tests.{lt-ltb}
-use lib.Dec.{ltb, leb-suc-suc}
-use lib.ListN.{length}
+use Rattle.std.proofs.Common.{◌≡◌, suc, Bool, true, false, cond, ◌||◌, ltb, List, [], ◌∷◌, length, sym, refl, ◌∙◌, arith, lt-ltb}
+use lib.Dec.{leb-suc-suc}
 use Rattle.transfer.specs.Lists.{position, any}
 
 module _ {A : Type 0} (p : A → Bool) where

@@ -1,16 +1,10 @@
 -- Sets of frames as numbers, said bit by bit: what each operation does to bit k, and that the bits are the set. Assumes nothing.
-use mathlib.Core.Path.{◌≡◌, refl, sym, ap, ◌∙◌}
-use mathlib.Core.Logic.{⊎_elim}
-use mathlib.Core.Bool.{Bool, true, false, not, ◌&&◌, ◌||◌}
-use Prim.Native.Nat.{ℕ, zero, suc, ◌+◌, ◌-◌, ◌*◌, ◌/◌, ◌%◌, ◌^◌, ◌≤◌, ◌<◌, min, max}
-use native.Mathlib.Nat.{zero-div, pow-suc, div-eq_of_lt, one-mul, mul-mod_left, pow-succ', div-div-eq-div-mul, div-one}
-use native.Mathlib.Omega.{arith}
-use lib.Dec.{eqb}
-use lib.Bits.{bit_and, bit_or, bit_xor, and_shr, xor_shr, and_step, xor_add_and, and_le_l, xor_lt}
-use lib.Pow.{pow-lt, pow_mono, pow-add, shl-shr}
-use borrow.Author.Tests.{eqb-true, eqb-false, eq-eqb, ne_eqb}
+use Rattle.std.proofs.Common.{◌≡◌, ℕ, zero, suc, ◌+◌, ◌-◌, ◌/◌, ◌%◌, ◌^◌, ◌<◌, ◌≤◌, min, max, Bool, true, false, not, ◌&&◌, ◌||◌, eqb, bit_and, bit_or, bit_xor, sym, refl, ap, ◌∙◌, ⊎_elim, div-one, arith, pow_mono, eq-eqb, ne_eqb, eqb-true}
+use native.Mathlib.Nat.{zero-div, div-eq_of_lt, pow-succ', div-div-eq-div-mul}
+use lib.Bits.{and_shr, xor_shr, and_step, xor_add_and, and_le_l, xor_lt}
+use borrow.Author.Tests.{eqb-false}
 use Rattle.receiver.specs.Map.{bit_of, with_bit}
-use Rattle.receiver.proofs.Maps.{compared, bit-or}
+use Rattle.receiver.proofs.Maps.{bit_here, bit_elsewhere, compared, bit-or}
 use Rattle.transfer.specs.Queue.{has, frame_alone, without}
 
 -- ---- one bit
@@ -47,21 +41,11 @@ bit-without a b k = omega (arith, bit-xor a (bit_and a b) k, bit-and a b k)
 
 -- frame k alone: its bit is set
 pub bit_alone : (k : ℕ) → bit_of (frame_alone k) k ≡ 1
-bit_alone k = let e : 2 ^ k / 2 ^ k ≡ 1 = rw one-mul at (shl-shr 1 k) in rw e
+bit_alone = bit_here
 
 -- and no other
 pub bit_others : (k j : ℕ) → (j ≡ k → ⊥) → bit_of (frame_alone k) j ≡ 0
-bit_others k j ne = ⊎_elim below (⊎_elim (λ e. absurd (ne e)) above) (compared j k)
-  where
-    below : j < k → bit_of (2 ^ k) j ≡ 0
-    below h =
-        let d : k ≡ suc (k - suc j) + j = omega arith in
-        let e : 2 ^ (suc (k - suc j) + j) / 2 ^ j ≡ 2 ^ (k - suc j) * 2 = rw (pow-add 2 (suc (k - suc j)) j, shl-shr (2 ^ suc (k - suc j)) j) (pow-suc 2 (k - suc j)) in
-        let f : 2 ^ k / 2 ^ j ≡ 2 ^ (k - suc j) * 2 = ap (λ (i : ℕ). 2 ^ i / 2 ^ j) d ∙ e in
-        rw f (mul-mod_left (2 ^ (k - suc j)) 2)
-
-    above : k < j → bit_of (2 ^ k) j ≡ 0
-    above h = let e : 2 ^ k / 2 ^ j ≡ 0 = div-eq_of_lt (pow-lt h) in rw e
+bit_others = bit_elsewhere
 
 -- a frame added: bit j is its own or was set
 pub bit_added : (a k j : ℕ) → bit_of (with_bit a k) j ≡ max (bit_of a j) (bit_of (frame_alone k) j)

@@ -1,13 +1,5 @@
 -- What parts of calls keep of `Sound`, for the code; and what `advance` never says. Assumes nothing.
-use mathlib.Core.Path.{◌≡◌, refl, sym, ap, subst, ◌∙◌}
-use mathlib.Core.Logic.{◌≢◌, ◌⊎◌, inl, inr, ⊎_elim, ◌↔◌}
-use mathlib.Core.Bool.{Bool, true, false, ◌||◌}
-use mathlib.Core.List.{List, [], ◌∷◌}
-use Rattle.std.specs.Prelude.{Option, None, Some}
-use Prim.Native.Nat.{ℕ, suc, ◌+◌, ◌<◌, ◌≤◌}
-use native.Mathlib.Omega.{arith}
-use lib.Dec.{ltb}
-use lib.ListN.{length, get_or}
+use Rattle.std.proofs.Common.{◌≡◌, ℕ, suc, ◌+◌, ◌<◌, ◌≤◌, Bool, true, false, ◌||◌, ltb, ◌≢◌, ◌⊎◌, ◌↔◌, List, [], ◌∷◌, length, get_or, Some, None, Option, sym, refl, ap, ◌∙◌, subst, inl, inr, ⊎_elim, arith}
 use Rattle.token.specs.Token.{stop, fewer_than}
 use Rattle.spach.specs.Refusal.{Outcome, gives, refuses, refuse, onward}
 use Rattle.transfer.specs.declared.Error.TheVariants.{EchoExhausted}
@@ -55,10 +47,6 @@ put-confirmed-kept v place frame x lt e low h = let y = confirm_frame frame x in
 -- the transfer at a place, whose Begin went out, observes a map
 pub put-observed-kept : (v : View) (place map : ℕ) (x : Transfer) → place < length v.transfers → x ≡ get_or v.transfers place blank_transfer → has (went_out x) 0 ≡ true → Sound v → Sound (put_at v place (observes map v.clock.last_block x))
 put-observed-kept v place map x lt e begun h = let y = observes map v.clock.last_block x in move_kept (put_move {octets = []} {first = 0} v place y lt (subst (Keeps v y) e (observed_keeps v x map begun))) h
-
--- the transfer at a place goes to the front, as another that stands for it
-pub fronted-kept : (v : View) (place : ℕ) (y : Transfer) → place < length v.transfers → Keeps v y (get_or v.transfers place blank_transfer) → Sound v → Sound (with_transfers v (y ∷ remove_at place v.transfers))
-fronted-kept v place y lt k h = move_kept (front_move {octets = []} {first = 0} v place y lt k) h
 
 -- a walk, whichever restarts are asked for, while a token is left for each transfer
 pub walk-kept : (v : View) (l : List (Bool × Transfer)) → transfers_of l ≡ v.transfers → 128 + v.next_token ≤ stop → Sound v → Sound (walk v l)

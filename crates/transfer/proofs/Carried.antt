@@ -1,10 +1,5 @@
 -- What every call but `enqueue` carries on, of each transfer's parcel and of the selected frame and its transfer. Assumes nothing.
-use mathlib.Core.Path.{◌≡◌, sym, subst}
-use mathlib.Core.Logic.{⊎_elim}
-use mathlib.Core.List.{List, ◌∷◌, ◌++◌}
-use Rattle.std.specs.Prelude.{Option, None, Some}
-use Prim.Native.Nat.{ℕ}
-use lib.Dec.{eqb}
+use Rattle.std.proofs.Common.{◌≡◌, ℕ, eqb, List, ◌∷◌, ◌++◌, Some, None, Option, sym, subst, ⊎_elim}
 use borrow.Author.Tests.{eqb-false}
 use Rattle.spach.specs.Refusal.{gives}
 use Rattle.arq.specs.declared.PackedFrame.{PackedFrame}

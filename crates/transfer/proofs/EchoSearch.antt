@@ -1,16 +1,7 @@
 -- The search round the echoes: what stands at an offset from `next`, a search that has come to an offset, what an answer tells of the holds, and what a hold changes. Assumes nothing.
-use mathlib.Core.Path.{◌≡◌, refl, sym, ap, ◌∙◌}
-use mathlib.Core.Logic.{◌↔◌}
-use mathlib.Core.Bool.{Bool, true, false, cond}
-use mathlib.Core.List.{List}
-use Rattle.std.specs.Prelude.{None, Some}
-use Prim.Native.Nat.{ℕ, ◌+◌, ◌-◌, ◌≤◌, ◌<◌, ◌%◌}
-use native.Mathlib.Numerals.{add-one}
-use native.Mathlib.Omega.{arith}
-use borrow.Author.Tests.{leb-true, leb-false, lt-leb, le-leb, lt-ltb, le-ltb, ltb-true, ltb-false}
-use lib.Dec.{ltb}
-use lib.ListN.{length, take, drop, get_or, length-append, length-drop, length-take, drop_of_length-le, get_or-append}
-use lib.Seq.{drop-cons, get_or-drop, get_or-take, get_or-append-add, get_or-set_same, get_or-set_other}
+use Rattle.std.proofs.Common.{◌≡◌, ℕ, ◌+◌, ◌-◌, ◌%◌, ◌<◌, ◌≤◌, Bool, true, false, cond, ltb, ◌↔◌, List, length, get_or, take, drop, Some, None, sym, refl, ap, ◌∙◌, add-one, arith, length-append, length-drop, drop_of_length-le, length-take, get_or-drop, drop-cons, get_or-set_other, get_or-take, get_or-set_same, get_or-append-add, ltb-false, ltb-true, le-ltb, lt-ltb, le-leb, leb-false, leb-true}
+use borrow.Author.Tests.{lt-leb}
+use lib.ListN.{get_or-append}
 use Rattle.transfer.specs.Lists.{position}
 use Rattle.transfer.specs.State.{Echoes}
 use Rattle.transfer.specs.Echo.{free, around, free_echo, hold}

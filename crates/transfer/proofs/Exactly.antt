@@ -1,24 +1,15 @@
 -- What single definitions answer, on every state, in plain numbers: a definition that is changed together with its code meets its contract, and
 -- fails here. The search for an echo is in EchoSearch (`free_least`, `none_free`), what calls leave in Leaves. Assumes nothing.
-use mathlib.Core.Path.{◌≡◌, refl, sym, ap, subst, ◌∙◌}
-use mathlib.Core.Logic.{◌≢◌, ◌⊎◌, inl, inr, ⊎_elim, ◌↔◌}
-use mathlib.Core.Bool.{Bool, true, false, cond, not, ◌&&◌, ◌||◌}
-use mathlib.Core.List.{List, [], ◌∷◌, ◌++◌, map}
-use Rattle.std.specs.Prelude.{Option, None, Some}
-use Prim.Native.Nat.{ℕ, zero, suc, ◌+◌, ◌-◌, ◌*◌, ◌≤◌, ◌<◌, ◌^◌}
-use native.Mathlib.Omega.{arith}
-use lib.Dec.{eqb, leb, ltb}
-use lib.Bits.{bit_and, bit_or}
+use Rattle.std.proofs.Common.{◌≡◌, ℕ, zero, suc, ◌+◌, ◌-◌, ◌*◌, ◌^◌, ◌<◌, ◌≤◌, Bool, true, false, cond, not, ◌&&◌, ◌||◌, eqb, ltb, leb, ◌≢◌, ◌⊎◌, ◌↔◌, List, [], ◌∷◌, ◌++◌, map, length, get_or, take, drop, bit_and, bit_or, Some, None, Option, sym, refl, ap, ◌∙◌, subst, inl, inr, ⊎_elim, arith, length-append, length-drop, length-take-le, get_or-drop, get_or-take, get_or-append-add, ltb-false, ltb-true, le-ltb, lt-ltb, eq-eqb, ne_eqb, eqb-true, le-leb, leb-false, leb-true}
+use Rattle.std.proofs.lemmas.Bool.{both_ways, cases_Bool, cond-false, cond-true}
 use lib.Count.{ones}
-use lib.ListN.{length, take, drop, get_or, length-append, length-drop, get_or-append}
-use lib.Seq.{length-take-le, get_or-append-add, get_or-take, get_or-drop}
-use borrow.Author.Tests.{eqb-true, eqb-false, eq-eqb, ne_eqb, lt-ltb, le-ltb, ltb-true, ltb-false, leb-true, leb-false, le-leb, not-true, not-false}
+use lib.ListN.{get_or-append}
+use borrow.Author.Tests.{eqb-false, not-true, not-false}
 use Rattle.rach.specs.declared.MobileIdentity.{MobileIdentity}
 use Rattle.rach.proofs.Laws.{same_self, same_equal}
 use Rattle.spach.specs.declared.Channel.{Channel}
 use Rattle.spach.specs.Refusal.{Outcome, gives, refuses, and_then, After}
 use Rattle.receiver.proofs.Maps.{compared}
-use Rattle.receiver.proofs.PushCases.{by_bool, true_false, pick_true, pick_false}
 use Rattle.arq.specs.declared.PackedFrame.{PackedFrame}
 use Rattle.arq.specs.declared.ResponseMode.TheVariants.{Contention}
 use Rattle.arq.specs.Cut.{frame_of}
@@ -56,12 +47,12 @@ use Rattle.transfer.proofs.Leaves.{view}
 -- each of several tests says what it says
 three : {A B C : Type 0} (a b c : Bool) → (a ≡ true) ↔ A → (b ≡ true) ↔ B → (c ≡ true) ↔ C → ((a && (b && c)) ≡ true) ↔ (A × B × C)
 three true true c f g h = ((λ e. (f.0 refl, g.0 refl, h.0 e)), (λ k. h.1 k.2))
-three true false c f g h = ((λ e. absurd (true_false {x = false} e refl)), (λ k. g.1 k.1))
-three false b c f g h = ((λ e. absurd (true_false {x = false} e refl)), (λ k. f.1 k.0))
+three true false c f g h = ((λ e. absurd (both_ways false refl e)), (λ k. g.1 k.1))
+three false b c f g h = ((λ e. absurd (both_ways false refl e)), (λ k. f.1 k.0))
 
 four : {A B C D : Type 0} (a b c d : Bool) → (a ≡ true) ↔ A → (b ≡ true) ↔ B → (c ≡ true) ↔ C → (d ≡ true) ↔ D → ((a && (b && (c && d))) ≡ true) ↔ (A × B × C × D)
 four true b c d f g h i = let k = three b c d g h i in ((λ e. let w = k.0 e in (f.0 refl, w.0, w.1, w.2)), (λ w. k.1 (w.1, w.2, w.3)))
-four false b c d f g h i = ((λ e. absurd (true_false {x = false} e refl)), (λ k. f.1 k.0))
+four false b c d f g h i = ((λ e. absurd (both_ways false refl e)), (λ k. f.1 k.0))
 
 -- two numbers are the same
 equal_exactly : (a b : ℕ) → (eqb a b ≡ true) ↔ (a ≡ b)
@@ -78,7 +69,7 @@ abbrev pub Since≥ : (limit block : ℕ) → Option ℕ → Type 0
 Since≥ limit block s = (b : ℕ) × (s ≡ Some b) × (limit ≤ block - b)
 
 passed_since : (limit block : ℕ) (s : Option ℕ) → (passed limit block s ≡ true) ↔ Since≥ limit block s
-passed_since limit block None = ((λ e. absurd (true_false {x = false} e refl)), (λ h. let q : None ≡ Some h.0 = h.1 in let z : ◌≡◌ {A = ℕ} 0 1 = cc in absurd (omega arith)))
+passed_since limit block None = ((λ e. absurd (both_ways false refl e)), (λ h. let q : None ≡ Some h.0 = h.1 in let z : ◌≡◌ {A = ℕ} 0 1 = cc in absurd (omega arith)))
 passed_since limit block (Some b) = (
   (λ e. (b, refl, leb-true limit (block - b) e)),
   (λ h. let q : b ≡ h.0 = same h.1 in le-leb limit (block - b) (subst (λ (n : ℕ). limit ≤ block - n) (sym q) h.2)),
@@ -93,7 +84,7 @@ restart-due_exactly block x = go (passed 64 block x.blocks.last_progress) (passe
   where
     go : {A B : Type 0} (p q : Bool) → (p ≡ true) ↔ A → (q ≡ true) ↔ B → ((p || q) ≡ true) ↔ (A ⊎ B)
     go true q a b = ((λ e. inl (a.0 refl)), (λ h. refl))
-    go false q a b = ((λ e. inr (b.0 e)), ⊎_elim (λ h. absurd (true_false {x = false} (a.1 h) refl)) (λ h. b.1 h))
+    go false q a b = ((λ e. inr (b.0 e)), ⊎_elim (λ h. absurd (both_ways false refl (a.1 h))) (λ h. b.1 h))
 
 -- ---- settle
 
@@ -111,7 +102,7 @@ unfolding settle_of
 requeues_exactly block x q f d s =
     let i : idle x ≡ true = rw (q, f) refl in
     let n : (not (idle x) || done_of x) ≡ false = rw (i, d) refl in
-    let e : settle_of block x ≡ requeued x = pick_false x (cond x.sets.received_status (requeued x) (waits block x)) n ∙ pick_true (requeued x) (waits block x) s in (
+    let e : settle_of block x ≡ requeued x = cond-false _ x (cond x.sets.received_status (requeued x) (waits block x)) n ∙ cond-true _ (requeued x) (waits block x) s in (
       (λ k. ap (λ (y : Transfer). has y.sets.queue k) e ∙ (has-without (continues_of x.parcel.frames) x.sets.observed k ∙ ap (λ (t : Bool). t && not (has x.sets.observed k)) (has-continues x.parcel.frames k))),
       ap (λ (y : Transfer). y.sets.in_flight) e,
       ap (λ (y : Transfer). y.sets.transmitted) e,
@@ -127,11 +118,11 @@ requeues_exactly block x q f d s =
 pub settle_stays : (block : ℕ) (x : Transfer) → ((x.sets.queue ≢ 0) ⊎ (x.sets.in_flight ≢ 0)) ⊎ (done_of x ≡ true) → settle_of block x ≡ x
 unfolding settle_of
 settle_stays block x h =
-    pick_true x (cond x.sets.received_status (requeued x) (waits block x)) (⊎_elim (⊎_elim (λ n. busy (is_empty x.sets.queue) (is_empty x.sets.in_flight) (inl (ne_eqb x.sets.queue 0 n))) (λ n. busy (is_empty x.sets.queue) (is_empty x.sets.in_flight) (inr (ne_eqb x.sets.in_flight 0 n)))) (λ d. late (not (idle x)) d) h)
+    cond-true _ x (cond x.sets.received_status (requeued x) (waits block x)) (⊎_elim (⊎_elim (λ n. busy (is_empty x.sets.queue) (is_empty x.sets.in_flight) (inl (ne_eqb x.sets.queue 0 n))) (λ n. busy (is_empty x.sets.queue) (is_empty x.sets.in_flight) (inr (ne_eqb x.sets.in_flight 0 n)))) (λ d. late (not (idle x)) d) h)
   where
     busy : (p q : Bool) → (p ≡ false) ⊎ (q ≡ false) → (not (p && q) || done_of x) ≡ true
-    busy true true (inl e) = absurd (true_false {x = true} refl e)
-    busy true true (inr e) = absurd (true_false {x = true} refl e)
+    busy true true (inl e) = absurd (both_ways true e refl)
+    busy true true (inr e) = absurd (both_ways true e refl)
     busy true false e = refl
     busy false q e = refl
 
@@ -157,7 +148,7 @@ unfolding settle_of done_of
 waits_exactly block x q f s =
     let i : idle x ≡ true = rw (q, f) refl in
     let d : (not (idle x) || done_of x) ≡ false = rw (i, s) refl in
-    let e : settle_of block x ≡ waits block x = pick_false x (cond x.sets.received_status (requeued x) (waits block x)) d ∙ pick_false (requeued x) (waits block x) s in
+    let e : settle_of block x ≡ waits block x = cond-false _ x (cond x.sets.received_status (requeued x) (waits block x)) d ∙ cond-false _ (requeued x) (waits block x) s in
     (ap (λ (y : Transfer). y.sets) e, (ap (λ (y : Transfer). y.parcel) e, ap (λ (y : Transfer). y.generation) e, ap (λ (y : Transfer). y.echo) e), ap (λ (y : Transfer). y.blocks.last_progress) e, ap (λ (y : Transfer). y.blocks.last_frame) e, go x.blocks.waiting_since (ap (λ (y : Transfer). y.blocks.waiting_since) e))
   where
     go : (w : Option ℕ) {n : Option ℕ} → n ≡ or_from block w → ((w ≡ None) × (n ≡ Some block)) ⊎ ((b : ℕ) × (w ≡ Some b) × (n ≡ Some b))
@@ -193,8 +184,8 @@ idle_exactly x = go (is_empty x.sets.queue) (is_empty x.sets.in_flight) refl ref
   where
     go : (p q : Bool) → is_empty x.sets.queue ≡ p → is_empty x.sets.in_flight ≡ q → ((p && q) ≡ true) ↔ Idle x
     go true true a b = ((λ e. (eqb-true x.sets.queue 0 a, eqb-true x.sets.in_flight 0 b)), (λ h. refl))
-    go true false a b = ((λ e. absurd (true_false {x = false} e refl)), (λ h. absurd (eqb-false x.sets.in_flight 0 b h.1)))
-    go false q a b = ((λ e. absurd (true_false {x = false} e refl)), (λ h. absurd (eqb-false x.sets.queue 0 a h.0)))
+    go true false a b = ((λ e. absurd (both_ways false refl e)), (λ h. absurd (eqb-false x.sets.in_flight 0 b h.1)))
+    go false q a b = ((λ e. absurd (both_ways false refl e)), (λ h. absurd (eqb-false x.sets.queue 0 a h.0)))
 
 -- the last frame alone is queued, and nothing else is another
 pub record LastAgain (x y : Transfer) : Type 0 where
@@ -208,8 +199,8 @@ last_again x = record { queue = λ k. has_alone (x.parcel.frames - 1) k; sets = 
 -- either of two answers by two tests, as said of each
 either : {A B : Type 0} (x y : Transfer) (p q : Bool) → (p ≡ true) ↔ A → (q ≡ true) ↔ B → LastAgain x y → ((A × B) × LastAgain x (cond (p && q) y x)) ⊎ (((A × B) → ⊥) × (cond (p && q) y x ≡ x))
 either x y true true a b l = inl ((a.0 refl, b.0 refl), l)
-either x y true false a b l = inr ((λ h. true_false {x = false} (b.1 h.1) refl), refl)
-either x y false q a b l = inr ((λ h. true_false {x = false} (a.1 h.0) refl), refl)
+either x y true false a b l = inr ((λ h. both_ways false refl (b.1 h.1)), refl)
+either x y false q a b l = inr ((λ h. both_ways false refl (a.1 h.0)), refl)
 
 -- `refresh_waiting` queues the last frame again exactly if none is queued or in flight, 16 blocks after the last was submitted
 pub refreshed_exactly : (block : ℕ) (x : Transfer)
@@ -221,7 +212,7 @@ abbrev pub AnyBlock : Option ℕ → Type 0
 AnyBlock s = (b : ℕ) × (s ≡ Some b)
 
 set_exactly : (s : Option ℕ) → (is_set s ≡ true) ↔ AnyBlock s
-set_exactly None = ((λ e. absurd (true_false {x = false} e refl)), (λ h. let q : None ≡ Some h.0 = h.1 in let z : ◌≡◌ {A = ℕ} 0 1 = cc in absurd (omega arith)))
+set_exactly None = ((λ e. absurd (both_ways false refl e)), (λ h. let q : None ≡ Some h.0 = h.1 in let z : ◌≡◌ {A = ℕ} 0 1 = cc in absurd (omega arith)))
 set_exactly (Some b) = ((λ e. (b, refl)), (λ h. refl))
 
 -- `prepare_prioritized` does so exactly if none is queued or in flight and one was submitted, however many frames there are
@@ -248,7 +239,7 @@ pub record Eldest (block : ℕ) (l : List Transfer) (place : ℕ) : Type 0 where
 aged_age : (block : ℕ) (x : Transfer) (a : ℕ) → Aged block x a → a ≡ age_of block x
 aged_age block x a h =
     let s = h.since in
-    s.2 ∙ sym (pick_true (blocks_since block x.blocks.last_frame) 0 (ap not (ne_eqb x.sets.queue 0 h.queued)) ∙ ap (blocks_since block) s.1)
+    s.2 ∙ sym (cond-true _ (blocks_since block x.blocks.last_frame) 0 (ap not (ne_eqb x.sets.queue 0 h.queued)) ∙ ap (blocks_since block) s.1)
 
 age_aged : (block : ℕ) (x : Transfer) → 16 ≤ age_of block x → Aged block x (age_of block x)
 age_aged block x h = go (is_ready x) x.blocks.last_frame refl refl h
@@ -256,7 +247,7 @@ age_aged block x h = go (is_ready x) x.blocks.last_frame refl refl h
     go : (r : Bool) (s : Option ℕ) → is_ready x ≡ r → x.blocks.last_frame ≡ s → 16 ≤ cond r (blocks_since block s) 0 → Aged block x (age_of block x)
     go true None e q h = absurd (omega arith)
     go true (Some b) e q h =
-        let n : age_of block x ≡ block - b = pick_true (blocks_since block x.blocks.last_frame) 0 e ∙ ap (blocks_since block) q in
+        let n : age_of block x ≡ block - b = cond-true _ (blocks_since block x.blocks.last_frame) 0 e ∙ ap (blocks_since block) q in
         record { queued = eqb-false x.sets.queue 0 (not-true (eqb x.sets.queue 0) e); since = (b, q, n); long = subst (λ (a : ℕ). 16 ≤ a) (sym n) h }
     go false s e q h = absurd (omega arith)
 
@@ -381,7 +372,7 @@ serves_exactly v i s h =
     let l = v.transfers in
     let block = v.clock.last_block in
     let e : oldest block l ≡ i = ⊎_elim (λ k. eldest_one block l (oldest block l) i k h) (λ k. absurd (k.1 i h.age h.inside h.aged)) (oldest_exactly block l) in
-    ap (oldest_first v) s ∙ ap (ordered v) (ap (λ (p : ℕ). to_front p l) e ∙ pick_true (get_or l i blank_transfer ∷ remove_at i l) l (lt-ltb i (length l) h.inside))
+    ap (oldest_first v) s ∙ ap (ordered v) (ap (λ (p : ℕ). to_front p l) e ∙ cond-true _ (get_or l i blank_transfer ∷ remove_at i l) l (lt-ltb i (length l) h.inside))
 
 -- if none is 16 blocks old, nothing changes
 pub serves_none : (v : View) → v.selected ≡ None → let l = v.transfers in ((j a : ℕ) → j < length l → Aged v.clock.last_block (get_or l j blank_transfer) a → ⊥) → serve_oldest v ≡ v
@@ -390,7 +381,7 @@ serves_none v s h =
     let l = v.transfers in
     let block = v.clock.last_block in
     let e : oldest block l ≡ length l = ⊎_elim (λ k. absurd (h (oldest block l) k.age k.inside k.aged)) (λ k. k.0) (oldest_exactly block l) in
-    ap (oldest_first v) s ∙ ap (ordered v) (ap (λ (p : ℕ). to_front p l) e ∙ pick_false (get_or l (length l) blank_transfer ∷ remove_at (length l) l) l (le-ltb (length l) (length l) (omega arith)))
+    ap (oldest_first v) s ∙ ap (ordered v) (ap (λ (p : ℕ). to_front p l) e ∙ cond-false _ (get_or l (length l) blank_transfer ∷ remove_at (length l) l) l (le-ltb (length l) (length l) (omega arith)))
 
 -- while a frame is selected, nothing changes
 pub serves_selected : (v : View) (f : PreparedFrame) → v.selected ≡ Some f → serve_oldest v ≡ v
@@ -475,12 +466,12 @@ repeated_ready : (x : Transfer) → (is_ready (repeated x) ≡ true) ↔ Repeata
 repeated_ready x = ⊎_elim again same (repeated_exactly x)
   where
     again : (Idle x × AnyBlock x.blocks.last_frame) × LastAgain x (repeated x) → (is_ready (repeated x) ≡ true) ↔ Repeatable x
-    again h = ((λ e. inr (h.0.0.1, h.0.1)), (λ k. (ready_exactly (repeated x)).1 (λ z. true_false (h.1.queue (x.parcel.frames - 1) ∙ eq-eqb (x.parcel.frames - 1) (x.parcel.frames - 1) refl) (rw z (bit_lacks 0 (x.parcel.frames - 1) (bit_none (x.parcel.frames - 1)))))))
+    again h = ((λ e. inr (h.0.0.1, h.0.1)), (λ k. (ready_exactly (repeated x)).1 (λ z. both_ways _ (rw z (bit_lacks 0 (x.parcel.frames - 1) (bit_none (x.parcel.frames - 1)))) (h.1.queue (x.parcel.frames - 1) ∙ eq-eqb (x.parcel.frames - 1) (x.parcel.frames - 1) refl))))
 
     same : ((Idle x × AnyBlock x.blocks.last_frame) → ⊥) × (repeated x ≡ x) → (is_ready (repeated x) ≡ true) ↔ Repeatable x
     same h = (
       (λ e. inl ((ready_exactly x).0 (sym (ap is_ready h.1) ∙ e))),
-      ⊎_elim (λ n. ap is_ready h.1 ∙ (ready_exactly x).1 n) (λ k. ⊎_elim (λ e. absurd (h.0 ((eqb-true x.sets.queue 0 e, k.0), k.1))) (λ e. ap is_ready h.1 ∙ ap not e) (by_bool (eqb x.sets.queue 0))),
+      ⊎_elim (λ n. ap is_ready h.1 ∙ (ready_exactly x).1 n) (λ k. ⊎_elim (λ e. absurd (h.0 ((eqb-true x.sets.queue 0 e, k.0), k.1))) (λ e. ap is_ready h.1 ∙ ap not e) (cases_Bool (eqb x.sets.queue 0))),
     )
 
 -- after its `advance` it has a frame exactly if the first transfer of the echo has one queued, or has none in flight and submitted one before
@@ -490,7 +481,7 @@ unfolding prioritize_at
 prioritize_gives_exactly v octets echo room h lt =
     let i = position (of_echo echo) v.transfers in
     let x = get_or v.transfers i blank_transfer in
-    let e : (prioritize_at v octets echo).outcome ≡ (prioritized v octets echo i x).outcome = ap (λ (a : After (Option PreparedFrame) View). a.outcome) (pick_true (prioritized v octets echo i x) (says None v) (lt-ltb i (length v.transfers) lt)) in
+    let e : (prioritize_at v octets echo).outcome ≡ (prioritized v octets echo i x).outcome = ap (λ (a : After (Option PreparedFrame) View). a.outcome) (cond-true _ (prioritized v octets echo i x) (says None v) (lt-ltb i (length v.transfers) lt)) in
     let k = go i x (is_ready (repeated x)) refl (prioritized-kept v i echo x lt refl h) in
     ((λ n. (repeated_ready x).0 (k.0 (λ q. n (e ∙ q)))), (λ r q. k.1 ((repeated_ready x).1 r) (sym e ∙ q)))
   where
@@ -499,8 +490,8 @@ prioritize_gives_exactly v octets echo room h lt =
 
     go : (i : ℕ) (x : Transfer) (t : Bool) → is_ready (repeated x) ≡ t → Sound (after i x)
         → let a : After (Option PreparedFrame) View = cond t (choose (after i x) octets) (says None (after i x)) in (a.outcome ≢ gives None) ↔ (t ≡ true)
-    go i x true e s = ((λ n. refl), (λ r q. true_false e (all_head ((choose_none_exactly (after i x) octets room s).0 q).1)))
-    go i x false e s = ((λ n. absurd (n refl)), (λ r. absurd (true_false {x = false} r refl)))
+    go i x true e s = ((λ n. refl), (λ r q. both_ways _ (all_head ((choose_none_exactly (after i x) octets room s).0 q).1) e))
+    go i x false e s = ((λ n. absurd (n refl)), (λ r. absurd (both_ways false refl r)))
 
 -- ---- the place in the lent store
 
@@ -514,7 +505,7 @@ lowest_each (suc tries) k l h j lt = go (any test l) refl lt (λ q m. lowest_eac
     go : (b : Bool) → any test l ≡ b → j < cond b (lowest_from tries (suc k) l) k → (((i : ℕ) → i < suc k → Any (λ x. x.parcel.n ≡ i) l) → j < lowest_from tries (suc k) l → Any (λ x. x.parcel.n ≡ j) l) → Any (λ x. x.parcel.n ≡ j) l
     go true e lt f =
         f
-        (λ i m. ⊎_elim (λ q. h i (ltb-true i k q)) (λ q. let r = ltb-false i k q in let w : k ≡ i = omega arith in some-map (λ x t. eqb-true x.parcel.n k t ∙ w) (any-true test l e)) (by_bool (ltb i k)))
+        (λ i m. ⊎_elim (λ q. h i (ltb-true i k q)) (λ q. let r = ltb-false i k q in let w : k ≡ i = omega arith in some-map (λ x t. eqb-true x.parcel.n k t ∙ w) (any-true test l e)) (cases_Bool (ltb i k)))
         lt
     go false e lt f = h j lt
 
@@ -584,11 +575,11 @@ outstanding_exactly t words x =
 
 -- the end of a generation drops its own selected frame, and no other's
 pub unselect_exactly : (g : Generation) (f : PreparedFrame) → (unselect g None ≡ None) × (f.token.generation.0 ≡ g.0 → unselect g (Some f) ≡ None) × (f.token.generation.0 ≢ g.0 → unselect g (Some f) ≡ Some f)
-unselect_exactly g f = (refl, (λ e. pick_true None (Some f) (eq-eqb f.token.generation.0 g.0 e)), (λ n. pick_false None (Some f) (ne_eqb f.token.generation.0 g.0 n)))
+unselect_exactly g f = (refl, (λ e. cond-true _ None (Some f) (eq-eqb f.token.generation.0 g.0 e)), (λ n. cond-false _ None (Some f) (ne_eqb f.token.generation.0 g.0 n)))
 
 -- `prepare_prioritized` leaves a selected frame of its echo, and drops one of another
 pub only_echo_exactly : (echo : ℕ) (f : PreparedFrame) → (only_echo echo None ≡ None) × (f.partial_echo ≡ echo → only_echo echo (Some f) ≡ Some f) × (f.partial_echo ≢ echo → only_echo echo (Some f) ≡ None)
-only_echo_exactly echo f = (refl, (λ e. pick_true (Some f) None (eq-eqb f.partial_echo echo e)), (λ n. pick_false (Some f) None (ne_eqb f.partial_echo echo n)))
+only_echo_exactly echo f = (refl, (λ e. cond-true _ (Some f) None (eq-eqb f.partial_echo echo e)), (λ n. cond-false _ (Some f) None (ne_eqb f.partial_echo echo n)))
 
 -- ---- what handing in and confirming leave
 
@@ -670,7 +661,7 @@ observes_exactly map block x = (
 any_exactly : {A : Type 0} {P : A → Type 0} (p : A → Bool) (l : List A) → ((x : A) → (p x ≡ true) ↔ P x) → (any p l ≡ true) ↔ Any P l
 any_exactly p l f = (
   (λ e. some-map (λ x t. (f x).0 t) (any-true p l e)),
-  (λ s. ⊎_elim (λ e. e) (λ e. absurd (some_all (λ x t n. true_false ((f x).1 t) n) s (any_false p l e))) (by_bool (any p l))),
+  (λ s. ⊎_elim (λ e. e) (λ e. absurd (some_all (λ x t n. both_ways _ n ((f x).1 t)) s (any_false p l e))) (cases_Bool (any p l))),
 )
 
 -- a transfer is to an identity exactly if it has that type and value

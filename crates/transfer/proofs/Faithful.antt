@@ -1,19 +1,10 @@
 -- Every prepared frame is cut from the message that was accepted for its transfer. Assumes nothing.
-use mathlib.Core.Path.{◌≡◌, refl, sym, ap, subst, ◌∙◌}
-use mathlib.Core.Logic.{◌≢◌, ⊎_elim}
-use mathlib.Core.Bool.{Bool, ◌||◌}
-use mathlib.Core.List.{List, [], ◌∷◌, ◌++◌, append-nil, append_assoc}
-use Rattle.std.specs.Prelude.{Option, None, Some}
-use Prim.Native.Nat.{ℕ, ◌+◌, ◌-◌, ◌*◌, ◌≤◌, ◌<◌}
-use native.Mathlib.Omega.{arith}
-use lib.Dec.{eqb, ltb}
-use lib.ListN.{length, take, drop, length-append, length-drop, take-append-drop}
-use lib.Seq.{length-take-le, take-append_seam, take-append-le, drop-append-le, drop-append-add, drop-drop, drop_at}
-use borrow.Author.Tests.{ltb-true, ltb-false}
+use Rattle.std.proofs.Common.{◌≡◌, ℕ, ◌+◌, ◌-◌, ◌*◌, ◌<◌, ◌≤◌, Bool, ◌||◌, eqb, ltb, ◌≢◌, List, [], ◌∷◌, ◌++◌, length, take, drop, Some, None, Option, sym, refl, ap, ◌∙◌, subst, ⊎_elim, append_assoc, append-nil, arith, length-append, length-drop, take-append-drop, length-take-le, drop-drop, drop_at, ltb-false, ltb-true}
+use Rattle.std.proofs.lemmas.Bool.{cases_Bool}
+use lib.Seq.{take-append_seam, take-append-le, drop-append-le, drop-append-add}
 use Rattle.spach.specs.Refusal.{gives}
 use Rattle.spach.proofs.Outcomes.{passed}
 use Rattle.arq.specs.declared.PackedFrame.{PackedFrame}
-use Rattle.receiver.proofs.PushCases.{by_bool}
 use Rattle.transfer.specs.declared.TransferToken.{TransferToken}
 use Rattle.transfer.specs.declared.Generation.{Generation}
 use Rattle.transfer.specs.declared.Request.{Request}
@@ -52,7 +43,7 @@ stored_own o n message h =
 
 -- another part of at most 255 octets is as it was
 stored_other : (o : List ℕ) (n : ℕ) (message : List ℕ) (i k : ℕ) → 255 * n ≤ length o → length message ≤ 255 → k ≤ 255 → n ≢ i → take k (drop (255 * i) (stored o n message)) ≡ take k (drop (255 * i) o)
-stored_other o n message i k h size low ne = ⊎_elim (λ t. before (ltb-true i n t)) (λ t. behind (ltb-false i n t)) (by_bool (ltb i n))
+stored_other o n message i k h size low ne = ⊎_elim (λ t. before (ltb-true i n t)) (λ t. behind (ltb-false i n t)) (cases_Bool (ltb i n))
   where
     p : List ℕ
     p = take (255 * n) o

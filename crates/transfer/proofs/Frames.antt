@@ -1,24 +1,11 @@
 -- The first n frames and the Continues among them, how many they are, and how low the front of a set is. Assumes nothing.
-use mathlib.Core.Path.{◌≡◌, refl, sym, ap, ◌∙◌}
-use mathlib.Core.Bool.{Bool, true, false, ◌&&◌}
-use Prim.Native.Nat.{ℕ, zero, suc, ◌+◌, ◌-◌, ◌≤◌, ◌<◌, ◌/◌, ◌%◌, ◌^◌}
+use Rattle.std.proofs.Common.{◌≡◌, ℕ, zero, suc, ◌+◌, ◌-◌, ◌/◌, ◌%◌, ◌^◌, ◌<◌, ◌≤◌, Bool, true, false, ◌&&◌, ltb, sym, refl, ap, ◌∙◌, arith, pow_pos, ltb-false, ltb-true, le-ltb, lt-ltb}
 use native.Mathlib.Nat.{two-pow-succ}
-use native.Mathlib.Omega.{arith}
 use lib.Count.{ones, ones_step, count_trailing_zeros, under}
-use lib.Dec.{ltb}
-use lib.Pow.{pow_pos}
-use borrow.Author.Tests.{lt-ltb, le-ltb, ltb-true, ltb-false}
 use Rattle.receiver.specs.Map.{bit_of}
 use Rattle.receiver.proofs.Maps.{ones_all, all_ones}
 use Rattle.transfer.specs.Queue.{has, first_frames, continues_of, front}
 use Rattle.transfer.proofs.Bitsets.{bit_first, bit_next, below_bits, bit-has, bit_lacks}
-
--- all but frame 0, the odd one
-pub all_but_first : (n : ℕ) → first_frames n - first_frames n % 2 ≡ continues_of n
-all_but_first zero = refl
-all_but_first (suc n) =
-    let two : 2 ^ suc n ≡ 2 ^ n + 2 ^ n = two-pow-succ n in
-    omega (arith, pow_pos n)
 
 -- each of the first n frames is one of them
 pub bit_firsts : (n k : ℕ) → k < n → bit_of (first_frames n) k ≡ 1

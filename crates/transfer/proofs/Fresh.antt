@@ -1,13 +1,7 @@
 -- What the constructor makes is Sound, and so is a sender with a frame in flight, another selected and an event waiting: the
 -- invariant asks for nothing that cannot be. Assumes nothing.
-use mathlib.Core.Path.{◌≡◌, refl, sym}
-use mathlib.Core.Bool.{false, true≢false}
-use mathlib.Core.List.{[], ◌∷◌, ◌++◌}
-use Rattle.std.specs.Prelude.{Option, None, Some}
-use Prim.Native.Nat.{ℕ, ◌≤◌, zero-le}
+use Rattle.std.proofs.Common.{◌≡◌, ℕ, ◌≤◌, false, [], ◌∷◌, ◌++◌, replicate, Some, None, Option, sym, refl, true≢false, zero-le, lit≤}
 use lib.Count.{ones, ones_in, count_trailing_zeros}
-use lib.Dec.{lit≤}
-use lib.ListN.{replicate}
 use borrow.Author.Tests.{eqb-false}
 use Rattle.field.specs.Bits.{bits, value, bits_of, octets}
 use Rattle.field.specs.Layout.{layout, up_to, any_set}

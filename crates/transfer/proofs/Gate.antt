@@ -1,15 +1,9 @@
 -- A gate that hears a sender in time gets its own order, and so does one that hears two, the second starting late. Assumes nothing.
-use mathlib.Core.Path.{◌≡◌, refl, sym, ap, subst, ◌∙◌}
-use mathlib.Core.Logic.{◌⊎◌, inl, inr, ⊎_elim, ◌≢◌}
-use mathlib.Core.Bool.{Bool, true, false, not}
+use Rattle.std.proofs.Common.{◌≡◌, ℕ, zero, suc, ◌+◌, ◌<◌, ◌≤◌, Bool, true, false, not, eqb, ltb, ◌≢◌, ◌⊎◌, List, [], ◌∷◌, ◌++◌, length, get_or, take, drop, replicate, Some, None, bytes_eq, sym, refl, ap, ◌∙◌, subst, inl, inr, ⊎_elim, arith, length-take, ltb-false, ltb-true, eqb-true}
+use Rattle.std.proofs.lemmas.Bool.{both_ways, cases_Bool}
 use mathlib.Core.List.Memᴰ
-use mathlib.Core.List.{List, [], ◌∷◌, ◌++◌, Memᴰ, head-eq_of_cons-eq, tail-eq_of_cons-eq}
-use Rattle.std.specs.Prelude.{None, Some, bytes_eq}
-use Prim.Native.Nat.{ℕ, zero, suc, ◌+◌, ◌≤◌, ◌<◌}
-use native.Mathlib.Omega.{arith}
-use lib.Dec.{eqb, ltb}
-use lib.ListN.{length, take, drop, replicate, get_or, length-take}
-use borrow.Author.Tests.{eqb-true, eqb-false, ltb-true, ltb-false, not-false}
+use mathlib.Core.List.{Memᴰ, head-eq_of_cons-eq, tail-eq_of_cons-eq}
+use borrow.Author.Tests.{eqb-false, not-false}
 use Rattle.field.specs.Bits.{bits_of}
 use Rattle.field.specs.Layout.{up_to}
 use Rattle.field.proofs.Cuts.{up_to_of_take, up_to_twice, bits_of_filled}
@@ -39,7 +33,7 @@ use Rattle.receiver.specs.Receiver as receivers
 use Rattle.receiver.specs.Receiver.{Out, push_of, status_answer}
 use Rattle.receiver.specs.Demand3.{Push, CutFrom, Such, OfCut, Fitting, Delivered, Undelivered, Delivers, Silent, runs, Holds}
 use Rattle.receiver.proofs.Heard.{frame_is}
-use Rattle.receiver.proofs.PushCases.{by_bool, true_false, same-octets, octets-same, kinds_apart}
+use Rattle.receiver.proofs.PushCases.{same-octets, octets-same, kinds_apart}
 use Rattle.receiver.proofs.Whole.{demand3}
 use Rattle.transfer.specs.declared.Request.{Request}
 use Rattle.transfer.specs.declared.Transfer.{Transfer}
@@ -140,11 +134,11 @@ continue_cut channel echo p i m (suc k) g e a =
 
 -- lists are equal, if they cannot differ
 stable_list : (a b : List ℕ) → ((a ≡ b → ⊥) → ⊥) → a ≡ b
-stable_list a b h = ⊎_elim (same-octets a b) (λ e. absurd (h (λ q. true_false (subst (λ c. bytes_eq a c ≡ true) q (octets-same a)) e))) (by_bool (bytes_eq a b))
+stable_list a b h = ⊎_elim (same-octets a b) (λ e. absurd (h (λ q. both_ways _ e (subst (λ c. bytes_eq a c ≡ true) q (octets-same a))))) (cases_Bool (bytes_eq a b))
 
 -- and so are numbers
 stable : (a b : ℕ) → ((a ≡ b → ⊥) → ⊥) → a ≡ b
-stable a b h = ⊎_elim (eqb-true a b) (λ e. absurd (h (eqb-false a b e))) (by_bool (eqb a b))
+stable a b h = ⊎_elim (eqb-true a b) (λ e. absurd (h (eqb-false a b e))) (cases_Bool (eqb a b))
 
 -- what delivers a message where something comes, and is silent where it does not, does the one or the other
 either : {A : Type 0} (m b : List ℕ) (o : Out) → (A → Delivers m b o) → ((A → ⊥) → Silent b o) → Delivers m b o ⊎ Silent b o
@@ -338,7 +332,7 @@ hold_past : (l : Limits) (echo time : ℕ) (v : View) (calls : List Told)
     → hold_of v echo ≤ time → hold_of (run v calls) echo ≤ time
 unfolding Each run
 hold_past l echo time v [] o f p h = h
-hold_past l echo time v (c ∷ calls) o f p h = hold_past l echo time (after v c) calls o.1 f.1 p.1 (⊎_elim same changed (by_bool (eqb (hold_of (after v c) echo) (hold_of v echo))))
+hold_past l echo time v (c ∷ calls) o f p h = hold_past l echo time (after v c) calls o.1 f.1 p.1 (⊎_elim same changed (cases_Bool (eqb (hold_of (after v c) echo) (hold_of v echo))))
   where
     same : eqb (hold_of (after v c) echo) (hold_of v echo) ≡ true → hold_of (after v c) echo ≤ time
     same e = let q = eqb-true (hold_of (after v c) echo) (hold_of v echo) e in omega arith

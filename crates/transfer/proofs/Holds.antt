@@ -1,14 +1,8 @@
 -- A call changes the hold of an echo only when it takes it. Assumes nothing.
-use mathlib.Core.Path.{◌≡◌, refl, sym, ap, subst, ◌∙◌}
-use mathlib.Core.Logic.{◌⊎◌, inl, inr, ⊎_elim}
-use mathlib.Core.List.{List, [], ◌∷◌, ◌++◌}
-use Prim.Native.Nat.{ℕ, ◌≤◌, ◌<◌}
-use native.Mathlib.Omega.{arith}
-use lib.Dec.{eqb}
-use lib.ListN.{get_or}
-use borrow.Author.Tests.{eqb-true, eqb-false}
+use Rattle.std.proofs.Common.{◌≡◌, ℕ, ◌<◌, ◌≤◌, eqb, ◌⊎◌, List, [], ◌∷◌, ◌++◌, get_or, sym, refl, ap, ◌∙◌, subst, inl, inr, ⊎_elim, arith, eqb-true}
+use Rattle.std.proofs.lemmas.Bool.{cases_Bool}
+use borrow.Author.Tests.{eqb-false}
 use Rattle.token.specs.Token.{stop}
-use Rattle.receiver.proofs.PushCases.{by_bool}
 use Rattle.transfer.specs.declared.Generation.{Generation}
 use Rattle.transfer.specs.declared.Transfer.{Transfer}
 use Rattle.transfer.specs.State.{Echoes, View, Lent}
@@ -55,7 +49,7 @@ module _ (v : View) (low : v.next_token ≤ stop) where
         held = λ echo.
             ⊎_elim (λ q. inr (subst (λ k. Any (Under v.next_token k) w.transfers) (sym (eqb-true echo new q)) s))
             (λ q. ⊎_elim (λ k. inl (ap (λ (k : Echoes). get_or k.echo_until_ms echo 0) e ∙ (held_other u.echoes new until echo (eqb-false echo new q) ∙ k))) (λ k. inr (f echo k)) (h.held echo))
-            (by_bool (eqb echo new));
+            (cases_Bool (eqb echo new));
       }
 
   -- what was there when the call began is none that began

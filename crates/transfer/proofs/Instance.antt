@@ -1,11 +1,6 @@
 -- The claims of History are not empty: a fresh sender takes echo 0, by restarts all the others, and echo 0 again exactly at the
 -- deadline plus guard; a millisecond earlier it is refused. Assumes nothing.
-use mathlib.Core.Path.{◌≡◌, refl}
-use mathlib.Core.List.{List, [], ◌∷◌}
-use Prim.Native.Nat.{ℕ, zero, suc}
-use native.Mathlib.Omega.{arith}
-use lib.ListN.{replicate, length, get_or}
-use borrow.Author.Tests.{leb-true}
+use Rattle.std.proofs.Common.{◌≡◌, ℕ, zero, suc, List, [], ◌∷◌, length, get_or, replicate, refl, arith, leb-true}
 use Rattle.transfer.specs.declared.Transfer.{Transfer}
 use Rattle.rach.specs.Identity.{same, encodable, in_range}
 use Rattle.rach.specs.declared.MobileIdentity.TheVariants.{Tmsi20}

@@ -1,17 +1,9 @@
 -- What each change of a sender keeps of `Sound`. Assumes nothing.
-use mathlib.Core.Path.{◌≡◌, refl, sym, ap, subst, ◌∙◌}
-use mathlib.Core.Logic.{◌≢◌, ⊎_elim}
-use mathlib.Core.Bool.{Bool, true, false, cond, not, ◌&&◌, ◌||◌, true≢false}
-use mathlib.Core.List.{List, [], ◌∷◌, ◌++◌, map}
-use Rattle.std.specs.Prelude.{Option, None, Some}
-use Prim.Native.Nat.{ℕ, zero, suc, ◌+◌, ◌*◌, ◌^◌, ◌-◌, ◌≤◌, ◌<◌}
+use Rattle.std.proofs.Common.{◌≡◌, ℕ, zero, suc, ◌+◌, ◌-◌, ◌*◌, ◌^◌, ◌<◌, ◌≤◌, Bool, true, false, cond, not, ◌&&◌, ◌||◌, eqb, ltb, leb, ◌≢◌, List, [], ◌∷◌, ◌++◌, map, length, get_or, take, drop, Some, None, Option, sym, refl, ap, ◌∙◌, subst, ⊎_elim, true≢false, arith, length-set, pow_pos, pow_mono, ltb-false, ltb-true, eq-eqb, ne_eqb, eqb-true, leb-false}
+use Rattle.std.proofs.lemmas.Bool.{cases_Bool}
 use lib.Bits.{and_zero_r}
-use lib.Pow.{pow_pos, pow_mono}
-use native.Mathlib.Omega.{arith}
-use lib.Dec.{eqb, leb, ltb}
-use lib.ListN.{length, take, drop, get_or, length-set}
 use lib.Seq.{split_at}
-use borrow.Author.Tests.{eqb-true, eqb-false, eq-eqb, ne_eqb, leb-false, lt-leb, ltb-true, ltb-false, not-false}
+use borrow.Author.Tests.{eqb-false, lt-leb, not-false}
 use Rattle.token.specs.Token.{stop, number_after, fewer_than}
 use Rattle.rach.specs.Identity.{type_of, value_of, same, encodable}
 use Rattle.rach.specs.declared.MobileIdentity.{MobileIdentity}
@@ -21,7 +13,6 @@ use Rattle.spach.specs.Refusal.{gives, After}
 use Rattle.spach.proofs.Outcomes.{passed, then-gives}
 use Rattle.arq.specs.declared.ArqHeader.{ArqHeader}
 use Rattle.arq.specs.Cut.{continues, count_of}
-use Rattle.receiver.proofs.PushCases.{by_bool}
 use Rattle.receiver.specs.declared.ArqStatus.{ArqStatus}
 use Rattle.transfer.specs.declared.FrameToken.{FrameToken}
 use Rattle.transfer.specs.declared.Request.{Request}
@@ -49,7 +40,7 @@ use Rattle.transfer.proofs.Fresh.{fresh_sound}
 -- ---- two transfers
 
 eqb_sym : (a b : ℕ) → eqb a b ≡ eqb b a
-eqb_sym a b = ⊎_elim (λ e. e ∙ sym (eq-eqb b a (sym (eqb-true a b e)))) (λ e. e ∙ sym (ne_eqb b a (λ q. eqb-false a b e (sym q)))) (by_bool (eqb a b))
+eqb_sym a b = ⊎_elim (λ e. e ∙ sym (eq-eqb b a (sym (eqb-true a b e)))) (λ e. e ∙ sym (ne_eqb b a (λ q. eqb-false a b e (sym q)))) (cases_Bool (eqb a b))
 
 -- `same` either way round
 pub same-sym : (a b : MobileIdentity) → same a b ≡ same b a
@@ -530,7 +521,7 @@ lowest_free (suc tries) k l h lt = go (any test l) refl (λ q. lowest_free tries
         → (cond b (lowest_from tries (suc k) l) k ≤ length l) × All (λ x. cond b (lowest_from tries (suc k) l) k ≢ x.parcel.n) l
     go true e f =
         f
-        (λ j m. ⊎_elim (λ q. h j (ltb-true j k q)) (λ q. let r = ltb-false j k q in let w : k ≡ j = omega arith in some-map (λ x t. eqb-true x.parcel.n k t ∙ w) (any-true test l e)) (by_bool (ltb j k)))
+        (λ j m. ⊎_elim (λ q. h j (ltb-true j k q)) (λ q. let r = ltb-false j k q in let w : k ≡ j = omega arith in some-map (λ x t. eqb-true x.parcel.n k t ∙ w) (any-true test l e)) (cases_Bool (ltb j k)))
     go false e f = (pigeon (λ (x : Transfer). x.parcel.n) k l h, all_map (λ x t q. eqb-false x.parcel.n k t (sym q)) (any_false test l e))
 
 -- what a count tells of its message

@@ -2,19 +2,11 @@
 -- the refusals of `enqueue` as a table, and what a request leaves that is refused or accepted; what is left where a frame is prepared, handed in,
 -- confirmed or taken, where a status comes, and where an order is interrupted, put first or cancelled. A definition that is changed together with its
 -- code meets its contract, and fails here. Assumes nothing.
-use mathlib.Core.Path.{◌≡◌, refl, sym, ap, ◌∙◌}
-use mathlib.Core.Logic.{◌≢◌, ◌⊎◌, inl, inr, ⊎_elim}
-use mathlib.Core.Bool.{Bool, true, false, cond, not, ◌&&◌, ◌||◌}
-use mathlib.Core.List.{List, [], ◌∷◌, ◌++◌, map, foldl}
-use Rattle.std.specs.Prelude.{Option, None, Some}
-use Prim.Native.Nat.{ℕ, suc, ◌+◌, ◌-◌, ◌*◌, ◌%◌, ◌≤◌, ◌<◌}
-use native.Mathlib.Omega.{arith}
-use lib.Bits.{bit_or}
+use Rattle.std.proofs.Common.{◌≡◌, ℕ, suc, ◌+◌, ◌-◌, ◌*◌, ◌%◌, ◌<◌, ◌≤◌, Bool, true, false, cond, not, ◌&&◌, ◌||◌, eqb, ltb, leb, ◌≢◌, ◌⊎◌, List, [], ◌∷◌, ◌++◌, map, length, get_or, set, replicate, bit_or, Some, None, Option, sym, refl, ap, ◌∙◌, inl, inr, ⊎_elim, arith, ltb-true, le-ltb, lt-ltb, eq-eqb, ne_eqb, eqb-true}
+use Rattle.std.proofs.lemmas.Bool.{both_ways, cond-false, cond-true}
+use mathlib.Core.List.{foldl}
 use lib.Count.{ones, count_trailing_zeros}
-use lib.Dec.{eqb, leb, ltb}
-use lib.ListN.{length, get_or, set, replicate}
 use lib.Seq.{set_at}
-use borrow.Author.Tests.{eqb-true, eq-eqb, ne_eqb, ltb-true, lt-ltb, le-ltb}
 use Rattle.token.specs.Token.{stop, number_after, fewer_than}
 use Rattle.rach.specs.Identity.{encodable}
 use Rattle.rach.specs.declared.MobileIdentity.{MobileIdentity}
@@ -28,7 +20,6 @@ use Rattle.arq.proofs.Tables.{said, table, cut_table}
 use Rattle.arq.proofs.Theorems.{count_refuses}
 use Rattle.receiver.specs.declared.ArqStatus.{ArqStatus}
 use Rattle.receiver.specs.Map.{with_bit}
-use Rattle.receiver.proofs.PushCases.{true_false, pick_true, pick_false}
 use Rattle.transfer.specs.declared.Error.TheVariants as errors
 use Rattle.transfer.specs.declared.Error.TheVariants.{EchoExhausted}
 use Rattle.transfer.specs.declared.Event.{Event}
@@ -63,12 +54,12 @@ use Rattle.transfer.proofs.Listed.{all_map, all_head, all_tail, all-at, at-end, 
 
 module _ {A : Type 0} (p : A → Bool) where
   position_split : (a : List A) (x : A) (b : List A) → All (λ y. p y ≡ false) a → p x ≡ true → position p (a ++ x ∷ b) ≡ length a
-  position_split [] x b h e = pick_true 0 (suc (position p b)) e
-  position_split (y ∷ a) x b h e = pick_false 0 (suc (position p (a ++ x ∷ b))) (all_head h) ∙ ap suc (position_split a x b (all_tail h) e)
+  position_split [] x b h e = cond-true _ 0 (suc (position p b)) e
+  position_split (y ∷ a) x b h e = cond-false _ 0 (suc (position p (a ++ x ∷ b))) (all_head h) ∙ ap suc (position_split a x b (all_tail h) e)
 
   position-length : (l : List A) → All (λ y. p y ≡ false) l → position p l ≡ length l
   position-length [] h = refl
-  position-length (y ∷ l) h = pick_false 0 (suc (position p l)) (all_head h) ∙ ap suc (position-length l (all_tail h))
+  position-length (y ∷ l) h = cond-false _ 0 (suc (position p l)) (all_head h) ∙ ap suc (position-length l (all_tail h))
 
 module _ {B : Type 0} (p : Transfer → Bool) (nothing : B) (found : ℕ → Transfer → B) where
   seek_found : (a : List Transfer) (x : Transfer) (b : List Transfer) → All (λ y. p y ≡ false) a → p x ≡ true → seek p (a ++ x ∷ b) nothing found ≡ found (length a) x
@@ -76,14 +67,14 @@ module _ {B : Type 0} (p : Transfer → Bool) (nothing : B) (found : ℕ → Tra
       let l = a ++ x ∷ b in
       let lt = below_end a x b in
       ap (λ (i : ℕ). cond (ltb i (length l)) (found i (get_or l i blank_transfer)) nothing) (position_split p a x b h e)
-      ∙ (pick_true (found (length a) (get_or l (length a) blank_transfer)) nothing (lt-ltb (length a) (length l) lt) ∙ ap (found (length a)) (at-end a x b blank_transfer))
+      ∙ (cond-true _ (found (length a) (get_or l (length a) blank_transfer)) nothing (lt-ltb (length a) (length l) lt) ∙ ap (found (length a)) (at-end a x b blank_transfer))
 
   seek_none : (l : List Transfer) → All (λ y. p y ≡ false) l → seek p l nothing found ≡ nothing
   seek_none l h =
       let i = position p l in
       let e = position-length p l h in
       let le : length l ≤ i = omega arith in
-      pick_false (found i (get_or l i blank_transfer)) nothing (le-ltb i (length l) le)
+      cond-false _ (found i (get_or l i blank_transfer)) nothing (le-ltb i (length l) le)
 
 -- an answer behind a test, beside which stands 24
 passes : (v : View) (m : Lent) (t : Bool) (o : Out Unit) → (cond t o (refusal 24 v m)).outcome ≡ gives tt → cond t o (refusal 24 v m) ≡ o
@@ -100,20 +91,20 @@ abbrev pub held : Limits → Echoes → (echo deadline : ℕ) → Echoes
 held l e echo deadline = record { echo_until_ms = set e.echo_until_ms echo (deadline + l.echo_guard_ms); next_echo = (echo + 1) % 128 }
 
 through : {A : Type 0} (t : Bool) (k : ℕ) (o : Outcome A) → t ≡ false → refuse t k o ≡ o
-through true k o q = absurd (true_false {x = true} refl q)
+through true k o q = absurd (both_ways true q refl)
 through false k o q = refl
 
 refused : {A : Type 0} (t : Bool) (k : ℕ) (o : Outcome A) → t ≡ true → refuse t k o ≡ refuses k
 refused true k o q = refl
-refused false k o q = absurd (true_false {x = false} q refl)
+refused false k o q = absurd (both_ways false refl q)
 
 or-false : (s t : Bool) → s ≡ false → t ≡ false → (s || t) ≡ false
-or-false true t p q = absurd (true_false {x = true} refl p)
+or-false true t p q = absurd (both_ways true p refl)
 or-false false t p q = q
 
 or-true : (s t : Bool) → (s ≡ true) ⊎ (t ≡ true) → (s || t) ≡ true
 or-true true t h = refl
-or-true false t h = ⊎_elim (λ p. absurd (true_false {x = false} p refl)) (λ q. q) h
+or-true false t h = ⊎_elim (λ p. absurd (both_ways false refl p)) (λ q. q) h
 
 -- ---- the constructor
 
@@ -268,9 +259,9 @@ advance_walks v = refl
 
 asked_first : (echo : ℕ) (a : List Transfer) (x : Transfer) (b : List Transfer) → All (λ y. y.echo ≢ echo) a → x.echo ≡ echo
     → asked_for echo (a ++ x ∷ b) ≡ map (λ y. (false, y)) a ++ (true, x) ∷ map (λ y. (false, y)) b
-asked_first echo [] x b h q = pick_true ((true, x) ∷ unasked b) ((false, x) ∷ asked_for echo b) (eq-eqb x.echo echo q)
+asked_first echo [] x b h q = cond-true _ ((true, x) ∷ unasked b) ((false, x) ∷ asked_for echo b) (eq-eqb x.echo echo q)
 asked_first echo (y ∷ a) x b h q =
-    pick_false ((true, y) ∷ unasked (a ++ x ∷ b)) ((false, y) ∷ asked_for echo (a ++ x ∷ b)) (ne_eqb y.echo echo (all_head h))
+    cond-false _ ((true, y) ∷ unasked (a ++ x ∷ b)) ((false, y) ∷ asked_for echo (a ++ x ∷ b)) (ne_eqb y.echo echo (all_head h))
     ∙ ap (λ (ps : List (Bool × Transfer)). (false, y) ∷ ps) (asked_first echo a x b (all_tail h) q)
 
 module _ {A : Type 0} (p : A → Bool) where
@@ -293,7 +284,7 @@ module _ (l : Limits) (c : Clock) (es : List Event) (e : Echoes) (s : Option Pre
     pub step_expires : leb x.parcel.deadline_ms c.last_ms ≡ true
         → step (view l c ts es e s n) (asked, x) ≡ view l c ts (es ++ Expired x.parcel.completion ∷ []) e (unselect x.generation s) n
     unfolding step fate_of
-    step_expires o = ap fate (pick_true (Ends (Expired x.parcel.completion)) (cond (done_of x) (Ends (Complete x.parcel.completion)) (settled c asked (settle_of c.last_block x))) o)
+    step_expires o = ap fate (cond-true _ (Ends (Expired x.parcel.completion)) (cond (done_of x) (Ends (Complete x.parcel.completion)) (settled c asked (settle_of c.last_block x))) o)
 
     -- else, done: Complete
     pub step_completes : leb x.parcel.deadline_ms c.last_ms ≡ false → done_of x ≡ true
@@ -301,19 +292,19 @@ module _ (l : Limits) (c : Clock) (es : List Event) (e : Echoes) (s : Option Pre
     unfolding step fate_of
     step_completes o d =
         ap fate
-        (pick_false (Ends (Expired x.parcel.completion)) (cond (done_of x) (Ends (Complete x.parcel.completion)) (settled c asked (settle_of c.last_block x))) o
-        ∙ pick_true (Ends (Complete x.parcel.completion)) (settled c asked (settle_of c.last_block x)) d)
+        (cond-false _ (Ends (Expired x.parcel.completion)) (cond (done_of x) (Ends (Complete x.parcel.completion)) (settled c asked (settle_of c.last_block x))) o
+        ∙ cond-true _ (Ends (Complete x.parcel.completion)) (settled c asked (settle_of c.last_block x)) d)
 
     goes_on_lem : leb x.parcel.deadline_ms c.last_ms ≡ false → done_of x ≡ false → fate_of c asked x ≡ settled c asked (settle_of c.last_block x)
     unfolding fate_of
     goes_on_lem o d =
-        pick_false (Ends (Expired x.parcel.completion)) (cond (done_of x) (Ends (Complete x.parcel.completion)) (settled c asked (settle_of c.last_block x))) o
-        ∙ pick_false (Ends (Complete x.parcel.completion)) (settled c asked (settle_of c.last_block x)) d
+        cond-false _ (Ends (Expired x.parcel.completion)) (cond (done_of x) (Ends (Complete x.parcel.completion)) (settled c asked (settle_of c.last_block x))) o
+        ∙ cond-false _ (Ends (Complete x.parcel.completion)) (settled c asked (settle_of c.last_block x)) d
 
     restarts : leb x.parcel.deadline_ms c.last_ms ≡ false → done_of x ≡ false → (asked || restart_due c.last_block (settle_of c.last_block x)) ≡ true
         → step (view l c ts es e s n) (asked, x) ≡ restart (view l c ts es e s n) x (free_echo e c.last_ms)
     unfolding step
-    restarts o d r = ap fate (goes_on_lem o d ∙ pick_true Restarts (Stays (settle_of c.last_block x)) r)
+    restarts o d r = ap fate (goes_on_lem o d ∙ cond-true _ Restarts (Stays (settle_of c.last_block x)) r)
 
     -- else, asked for or due, with an echo free: begun again under it, behind those before it
     pub step_restarts : (echo : ℕ) → leb x.parcel.deadline_ms c.last_ms ≡ false → done_of x ≡ false → (asked || restart_due c.last_block (settle_of c.last_block x)) ≡ true
@@ -331,7 +322,7 @@ module _ (l : Limits) (c : Clock) (es : List Event) (e : Echoes) (s : Option Pre
     pub step_stays : leb x.parcel.deadline_ms c.last_ms ≡ false → done_of x ≡ false → (asked || restart_due c.last_block (settle_of c.last_block x)) ≡ false
         → step (view l c ts es e s n) (asked, x) ≡ view l c (ts ++ settle_of c.last_block x ∷ []) es e s n
     unfolding step
-    step_stays o d r = ap fate (goes_on_lem o d ∙ pick_false Restarts (Stays (settle_of c.last_block x)) r)
+    step_stays o d r = ap fate (goes_on_lem o d ∙ cond-false _ Restarts (Stays (settle_of c.last_block x)) r)
 
   -- ---- interrupt, prepare_prioritized
 
@@ -340,7 +331,7 @@ module _ (l : Limits) (c : Clock) (es : List Event) (e : Echoes) (s : Option Pre
     pub interrupts : let v = view l c (a ++ x ∷ b) es e s n in interrupted v echo ≡ record { outcome = gives true; state = walk v (map (λ y. (false, y)) a ++ (true, x) ∷ map (λ y. (false, y)) b) }
     interrupts =
         let v = view l c (a ++ x ∷ b) es e s n in
-        pick_true (says true (walk v (asked_for echo (a ++ x ∷ b)))) (says false v) (any-split (of_echo echo) a x b (eq-eqb x.echo echo q))
+        cond-true _ (says true (walk v (asked_for echo (a ++ x ∷ b)))) (says false v) (any-split (of_echo echo) a x b (eq-eqb x.echo echo q))
         ∙ ap (λ (ps : List (Bool × Transfer)). says true (walk v ps)) (asked_first echo a x b h q)
 
     -- the transfer goes to the front, the others keep their order, a selected frame of another echo is dropped; if it has a frame queued then, the
@@ -366,7 +357,7 @@ module _ (l : Limits) (c : Clock) (es : List Event) (e : Echoes) (s : Option Pre
   pub interrupts_unknown : (echo : ℕ) (ts : List Transfer) → All (λ y. y.echo ≢ echo) ts → interrupted (view l c ts es e s n) echo ≡ record { outcome = gives false; state = view l c ts es e s n }
   interrupts_unknown echo ts h =
       let v = view l c ts es e s n in
-      pick_false (says true (walk v (asked_for echo ts))) (says false v) (any_nowhere (of_echo echo) ts (all_map (λ y d. ne_eqb y.echo echo d) h))
+      cond-false _ (says true (walk v (asked_for echo ts))) (says false v) (any_nowhere (of_echo echo) ts (all_map (λ y d. ne_eqb y.echo echo d) h))
 
   pub prioritizes_unknown : (octets : List ℕ) (echo : ℕ) (ts : List Transfer) → All (λ y. y.echo ≢ echo) ts → prioritize_at (view l c ts es e s n) octets echo ≡ record { outcome = gives None; state = view l c ts es e s n }
   unfolding prioritize_at
@@ -475,7 +466,7 @@ module _ (l : Limits) (c : Clock) (es : List Event) (e : Echoes) (s : Option Pre
         let v = view l c (a ++ x ∷ b) es e s n in
         let told : View → After (Option Bool) View = λ w. record { outcome = gives (Some (eqb (ones (with_bit x.sets.transmitted t.frame)) x.parcel.frames)); state = walked w } in
         of-generation (says None v) (λ place y. cond (is_outstanding t words y) (confirms v t place y) (says None v))
-        ∙ (pick_true (confirms v t (length a) x) (says None v) o
+        ∙ (cond-true _ (confirms v t (length a) x) (says None v) o
         ∙ ap (λ (ts : List Transfer). told (view l c ts es e s n)) (set_at a x b (confirm_frame t.frame x) (length a) refl))
 
     -- the completion is told in full, once as many frames as there are went out, whatever the token's submission and frame
@@ -599,7 +590,7 @@ transmitted_unknown v words t h = go (ltb i (length l)) refl
     go : (b : Bool) → ltb i (length l) ≡ b → cond b (cond (is_outstanding t words x) (confirms v t i x) (says None v)) (says None v) ≡ says None v
     go true q =
         let lt = ltb-true i (length l) q in
-        pick_false (confirms v t i x) (says None v) (all-at l i blank_transfer lt h (eqb-true x.generation.0 t.generation.0 (position-found (of_generation t.generation) blank_transfer l lt)))
+        cond-false _ (confirms v t i x) (says None v) (all-at l i blank_transfer lt h (eqb-true x.generation.0 t.generation.0 (position-found (of_generation t.generation) blank_transfer l lt)))
     go false q = refl
 
 -- ---- enqueue: its refusals

@@ -1,11 +1,5 @@
 -- Laws of `All`, `Some` and `Pairs`: with one element taken out of a list or put in, and with one at a place. Assumes nothing.
-use mathlib.Core.Path.{◌≡◌, refl, sym, ap, subst, ◌∙◌}
-use mathlib.Core.Logic.{◌⊎◌, inl, inr, ⊎_elim}
-use mathlib.Core.Bool.{Bool, true, false, cond, ◌||◌}
-use mathlib.Core.List.{List, [], ◌∷◌, ◌++◌, append-nil}
-use Prim.Native.Nat.{ℕ, zero, suc, ◌≤◌, ◌<◌}
-use native.Mathlib.Omega.{arith}
-use lib.ListN.{length, take, drop, get_or}
+use Rattle.std.proofs.Common.{◌≡◌, ℕ, zero, suc, ◌<◌, ◌≤◌, Bool, true, false, cond, ◌||◌, ◌⊎◌, List, [], ◌∷◌, ◌++◌, length, get_or, take, drop, sym, refl, ap, ◌∙◌, subst, inl, inr, ⊎_elim, append-nil, arith}
 use lib.Seq.{split_at}
 use Rattle.transfer.specs.Lists.{position, any, remove_at, push_back}
 use Rattle.transfer.specs.Invariant.{All, all_none, all_more, Any, any-here, any-later, Pairs, pairs-none, pairs-more}

@@ -1,18 +1,13 @@
 -- The Rust's `enqueue`, `advance` and the calls that make it, with every step as it is written, are the definitions. Assumes nothing.
-use mathlib.Core.Logic.{⊎_elim}
-use mathlib.Core.Path.{◌≡◌, refl, sym, ap, ap₂, subst, ◌∙◌}
-use mathlib.Core.Bool.{Bool, true, false, cond, not, ◌&&◌, ◌||◌, true≢false, or-false, and-false}
-use mathlib.Core.List.{List, [], ◌∷◌, map, foldl}
-use Rattle.std.specs.Prelude.{Option, None, Some}
-use Prim.Native.Nat.{ℕ, zero, suc, ◌+◌, ◌-◌, ◌/◌, ◌%◌, ◌^◌, ◌≤◌, ◌<◌}
-use native.Mathlib.Omega.{arith}
-use lib.Bits.{bit_and, bit_or, or_lt}
+use Rattle.std.proofs.Common.{◌≡◌, ℕ, zero, suc, ◌+◌, ◌-◌, ◌/◌, ◌%◌, ◌^◌, ◌<◌, ◌≤◌, Bool, true, false, cond, not, ◌&&◌, ◌||◌, eqb, ltb, leb, List, [], ◌∷◌, map, length, get_or, take, drop, set, bit_and, bit_or, Some, None, Option, sym, refl, ap, ◌∙◌, subst, ap₂, ⊎_elim, true≢false, arith, length-set, pow_mono, ltb-false, ltb-true, le-ltb, lt-ltb, eq-eqb, ne_eqb, eqb-true, le-leb}
+use Rattle.std.proofs.lemmas.Bool.{and_from, cases_Bool}
+use mathlib.Core.Bool.{or-false, and-false}
+use mathlib.Core.List.{foldl}
+use lib.Bits.{or_lt}
 use lib.Count.{ones}
-use lib.Dec.{eqb, leb, ltb}
-use lib.ListN.{length, take, drop, get_or, set, length-set}
-use lib.Pow.{field, mod-mod-pow, pow_mono}
+use lib.Pow.{field, mod-mod-pow}
 use lib.Seq.{set_split}
-use borrow.Author.Tests.{eqb-true, eqb-false, eq-eqb, ne_eqb, le-leb, lt-leb, le-ltb, ltb-true, ltb-false, lt-ltb}
+use borrow.Author.Tests.{eqb-false, lt-leb}
 use Rattle.token.specs.Token.{stop}
 use Rattle.rach.proofs.Laws.{both}
 use Rattle.rach.specs.declared.MobileIdentity.{MobileIdentity}
@@ -23,7 +18,6 @@ use Rattle.arq.specs.Cut.{count_of}
 use Rattle.receiver.specs.Map.{bit_of, with_bit}
 use Rattle.receiver.specs.declared.ArqStatus.{ArqStatus}
 use Rattle.receiver.proofs.Maps.{compared, ones_all, all_ones}
-use Rattle.receiver.proofs.PushCases.{by_bool, both_true}
 use Rattle.transfer.specs.declared.Fate.{Fate}
 use Rattle.transfer.specs.declared.Fate.TheVariants.{Ends, Restarts, Stays}
 use Rattle.transfer.specs.declared.FrameToken.{FrameToken}
@@ -76,7 +70,7 @@ each-one (suc n) test h (suc k) l = each-one n (λ k. test (suc k)) (both (test 
 -- and where every one does, each passes
 one_each : (n : ℕ) (test : ℕ → Bool) → ((k : ℕ) → k < n → test k ≡ true) → each n test ≡ true
 one_each zero test h = refl
-one_each (suc n) test h = both_true (h 0 (omega arith)) (one_each n (λ k. test (suc k)) (λ k l. h (suc k) (omega arith)))
+one_each (suc n) test h = and_from _ _ (h 0 (omega arith)) (one_each n (λ k. test (suc k)) (λ k l. h (suc k) (omega arith)))
 
 -- each of n frames is in a set of them exactly if as many are
 pub each-full : (n q : ℕ) → q < 2 ^ n → each n (has q) ≡ full n q
@@ -176,7 +170,7 @@ module _ (x : Transfer) (s : SetsAgree x) where
         test k = has o (suc k) && has t (suc k)
 
         counted : (has t 0 && each (count - 1) test) ≡ true → (all_transmitted x && full (count - 1) o) ≡ true
-        counted h = both_true (eq-eqb (ones t) count (all_ones count t s.transmitted bits)) (eq-eqb (ones o) (count - 1) (count_continues count o s.observed n (lacks_bit o 0 s.no_begin) (λ k l. has-bit o (suc k) (one k l).0)))
+        counted h = and_from _ _ (eq-eqb (ones t) count (all_ones count t s.transmitted bits)) (eq-eqb (ones o) (count - 1) (count_continues count o s.observed n (lacks_bit o 0 s.no_begin) (λ k l. has-bit o (suc k) (one k l).0)))
           where
             one : (k : ℕ) → suc k < count → (has o (suc k) ≡ true) × (has t (suc k) ≡ true)
             one k l = both (has o (suc k)) (has t (suc k)) (each-one (count - 1) test (both (has t 0) (each (count - 1) test) h).1 k (omega arith))
@@ -189,7 +183,7 @@ module _ (x : Transfer) (s : SetsAgree x) where
         looked h =
             let p = both (all_transmitted x) (full (count - 1) o) h in
             let sent : (k : ℕ) → k < count → has t k ≡ true = λ k l. bit-has t k (ones_all count t s.transmitted (eqb-true (ones t) count p.0) k l) in
-            both_true (sent 0 (omega arith)) (one_each (count - 1) test (λ k l. both_true (bit-has o (suc k) (continues-counted count o s.observed (lacks_bit o 0 s.no_begin) (eqb-true (ones o) (count - 1) p.1) k l)) (sent (suc k) (omega arith))))
+            and_from _ _ (sent 0 (omega arith)) (one_each (count - 1) test (λ k l. and_from _ _ (bit-has o (suc k) (continues-counted count o s.observed (lacks_bit o 0 s.no_begin) (eqb-true (ones o) (count - 1) p.1) k l)) (sent (suc k) (omega arith))))
 
     -- `settle`
     pub settle-literal : (block : ℕ) → settle_literal block x ≡ settle_of block x
@@ -245,7 +239,7 @@ observes-literal map block x s most = ap seen (same_frames (set_where n test o) 
     frame zero =
         let even : has (shown map) 0 ≡ false = bit_lacks (shown map) 0 (bit_first (shown map) ∙ omega arith) in
         where_other n test o 0 (λ i l e. omega arith) ∙ (sym (or-false (has o 0)) ∙ (ap (λ (b : Bool). has o 0 || (b && has w 0)) (sym even) ∙ sym (more 0)))
-    frame (suc k) = ⊎_elim (λ e. below (ltb-true k n e)) (λ e. above (ltb-false k n e)) (by_bool (ltb k n))
+    frame (suc k) = ⊎_elim (λ e. below (ltb-true k n e)) (λ e. above (ltb-false k n e)) (cases_Bool (ltb k n))
       where
         below : k < n → has (set_where n test o) (suc k) ≡ has (bit_or o (bit_and (shown map) w)) (suc k)
         below l =

@@ -1,5 +1,5 @@
 -- Every sender is `Sound` that a list of calls makes of a fresh one. Assumes nothing.
-use mathlib.Core.List.{List, [], ◌∷◌}
+use Rattle.std.proofs.Common.{List, [], ◌∷◌}
 use Rattle.transfer.specs.State.{View, Lent}
 use Rattle.transfer.specs.History.{Call, does, Told, after, run, Fresh}
 use Rattle.transfer.specs.Invariant.{Sound}

@@ -1,16 +1,10 @@
 -- What `Gate` and `GateOfTwo` ask for, computed: a gate that hears its order among a neighbour's; the gate of the request, which with
 -- the old start-up gets the first half of its order and the second half of the neighbour's; and a second sender that starts late.
 -- Assumes nothing.
-use mathlib.Core.Path.{◌≡◌, refl, sym, ap, subst, ◌∙◌}
-use mathlib.Core.Logic.{◌⊎◌, inl, ⊎_elim}
-use mathlib.Core.Bool.{Bool, true, false}
+use Rattle.std.proofs.Common.{◌≡◌, ℕ, ◌≤◌, Bool, true, false, ◌⊎◌, List, [], ◌∷◌, ◌++◌, length, get_or, replicate, sym, refl, ap, ◌∙◌, subst, inl, ⊎_elim, arith, lit≤}
 use mathlib.Core.List.Memᴰ
-use mathlib.Core.List.{List, [], ◌∷◌, ◌++◌, Memᴰ}
-use Prim.Native.Nat.{ℕ, ◌≤◌}
-use native.Mathlib.Omega.{arith}
+use mathlib.Core.List.{Memᴰ}
 use lib.Count.{ones, ones_in, count_trailing_zeros}
-use lib.Dec.{lit≤}
-use lib.ListN.{length, get_or, replicate}
 use Rattle.field.specs.Bits.{bits, value, bits_of, octets, field}
 use Rattle.field.specs.Layout.{layout, up_to, any_set}
 use Rattle.rach.specs.Identity.{same, in_range, encodable}

@@ -1,17 +1,9 @@
 -- What every call does, as moves: the clock goes on; then transfers change, restart and end one at a time, frames are prepared and
 -- dropped; and last a frame is told, a request accepted or an event taken. A law over lists of calls goes by the moves, not by the calls,
 -- and so does `Sound`. A call to be added is a case of `does_leaves`. Assumes nothing.
-use mathlib.Core.Path.{◌≡◌, refl, sym, ap, subst, ◌∙◌}
-use mathlib.Core.Logic.{◌⊎◌, inl, inr, ⊎_elim}
-use mathlib.Core.Bool.{Bool, true, false, ◌&&◌}
-use mathlib.Core.List.{List, [], ◌∷◌, ◌++◌, map, foldl, append-nil, append_assoc}
-use Rattle.std.specs.Prelude.{Option, None, Some}
-use Prim.Native.Nat.{ℕ, suc, ◌+◌, ◌≤◌, ◌<◌}
-use native.Mathlib.Omega.{arith}
-use lib.Dec.{eqb, leb, ltb}
-use lib.ListN.{length, take, drop, get_or, set, length-set}
+use Rattle.std.proofs.Common.{◌≡◌, ℕ, suc, ◌+◌, ◌<◌, ◌≤◌, Bool, true, false, ◌&&◌, eqb, ltb, leb, ◌⊎◌, List, [], ◌∷◌, ◌++◌, map, length, get_or, take, drop, set, Some, None, Option, sym, refl, ap, ◌∙◌, subst, inl, inr, ⊎_elim, append_assoc, append-nil, arith, length-set, ltb-false, ltb-true}
+use mathlib.Core.List.{foldl}
 use lib.Seq.{set_split, split_at}
-use borrow.Author.Tests.{ltb-true, ltb-false}
 use Rattle.token.specs.Token.{stop, number_after}
 use Rattle.rach.proofs.Laws.{both}
 use Rattle.spach.specs.Refusal.{Outcome, gives, refuses, refuse, After, onward}

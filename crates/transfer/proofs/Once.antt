@@ -1,9 +1,5 @@
 -- Under one token one message is accepted, over any list of calls: the message that `Faithful` speaks of is the only one. Assumes nothing.
-use mathlib.Core.Path.{◌≡◌, refl, sym, ap, subst, ◌∙◌}
-use mathlib.Core.List.{List, [], ◌∷◌, ◌++◌}
-use Rattle.std.specs.Prelude.{Some}
-use Prim.Native.Nat.{ℕ, suc, ◌≤◌}
-use native.Mathlib.Omega.{arith}
+use Rattle.std.proofs.Common.{◌≡◌, ℕ, suc, ◌≤◌, List, [], ◌∷◌, ◌++◌, Some, sym, refl, ap, ◌∙◌, subst, arith}
 use Rattle.token.specs.Token.{stop}
 use Rattle.transfer.specs.State.{View, Lent, token_taken}
 use Rattle.transfer.specs.Invariant.{Sound}

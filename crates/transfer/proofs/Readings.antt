@@ -1,11 +1,5 @@
 -- What each reading of an answer of the sender says: every value is told as it is. Assumes nothing.
-use mathlib.Core.Path.{◌≡◌, refl}
-use mathlib.Core.Bool.{false, cond, not}
-use mathlib.Core.List.{[], ◌∷◌}
-use Rattle.std.specs.Prelude.{None, Some}
-use Prim.Native.Nat.{ℕ, ◌-◌, ◌/◌, ◌%◌, ◌^◌, suc}
-use lib.Bits.{bit_and, bit_xor}
-use lib.Dec.{eqb}
+use Rattle.std.proofs.Common.{◌≡◌, ℕ, suc, ◌-◌, ◌/◌, ◌%◌, ◌^◌, false, cond, not, eqb, [], ◌∷◌, bit_and, bit_xor, Some, None, refl}
 use Rattle.spach.specs.Refusal.{gives, refuses, After}
 use Rattle.transfer.specs.declared.Event.{Event}
 use Rattle.transfer.specs.Queue.{has, first_frames, continues_of, frame_alone, without, frames_from, frames_of}

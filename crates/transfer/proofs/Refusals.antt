@@ -1,15 +1,8 @@
 -- What comments beside the definitions say, proved. Assumes nothing.
-use mathlib.Core.Path.{◌≡◌, refl, sym, ap, subst, ◌∙◌}
-use mathlib.Core.Logic.{◌≢◌, ◌⊎◌, inl, inr, ⊎_elim, ◌↔◌}
-use mathlib.Core.Bool.{Bool, true, false, cond, not, ◌&&◌, ◌||◌}
-use mathlib.Core.List.{List, [], ◌∷◌, ◌++◌, foldl}
-use Rattle.std.specs.Prelude.{Option, None, Some}
-use Prim.Native.Nat.{ℕ, suc, ◌+◌, ◌*◌, ◌≤◌, ◌<◌}
-use native.Mathlib.Omega.{arith}
-use lib.Dec.{eqb, ltb}
-use lib.ListN.{length, drop, get_or, length-set, length-drop}
-use lib.Seq.{length-take-le}
-use borrow.Author.Tests.{eqb-true, eqb-false, eq-eqb, ne_eqb, lt-ltb, le-ltb, ltb-true, ltb-false}
+use Rattle.std.proofs.Common.{◌≡◌, ℕ, suc, ◌+◌, ◌*◌, ◌<◌, ◌≤◌, Bool, true, false, cond, not, ◌&&◌, ◌||◌, eqb, ltb, ◌≢◌, ◌⊎◌, ◌↔◌, List, [], ◌∷◌, ◌++◌, length, get_or, drop, Some, None, Option, sym, refl, ap, ◌∙◌, subst, inl, inr, ⊎_elim, arith, length-drop, length-set, length-take-le, ltb-false, ltb-true, le-ltb, lt-ltb, eq-eqb, ne_eqb, eqb-true}
+use Rattle.std.proofs.lemmas.Bool.{and_from, both_ways, cases_Bool, cond-false, cond-true}
+use mathlib.Core.List.{foldl}
+use borrow.Author.Tests.{eqb-false}
 use Rattle.token.specs.Token.{stop, fewer_than}
 use Rattle.rach.specs.Identity.{encodable}
 use Rattle.rach.specs.declared.MobileIdentity.{MobileIdentity}
@@ -24,7 +17,6 @@ use Rattle.arq.specs.Encode.{encode_of}
 use Rattle.arq.specs.Decode.{decode_of}
 use Rattle.arq.specs.Cut.{continues, cut_frame, frame_of}
 use Rattle.arq.proofs.Theorems.{cut_decodes}
-use Rattle.receiver.proofs.PushCases.{by_bool, true_false, pick_true, pick_false, both_true}
 use Rattle.transfer.specs.declared.Error.TheVariants.{EchoExhausted}
 use Rattle.transfer.specs.declared.Event.{Event}
 use Rattle.transfer.specs.declared.Event.TheVariants.{Failed}
@@ -85,7 +77,7 @@ Fronted t x = (x.generation.0 ≡ t.generation.0) × ((is_ready x ≡ true) × (
 
 -- the selected frame's token names the front of a live transfer
 selected_fronted : (l : List Transfer) (next : ℕ) (t : FrameToken) (s : Option PreparedFrame) → Selected l next s → is_selected t s ≡ true → Any (Fronted t) l
-selected_fronted l next t None h e = absurd (true_false {x = false} e refl)
+selected_fronted l next t None h e = absurd (both_ways false refl e)
 selected_fronted l next t (Some f) h e =
     let p = both (eqb f.token.generation.0 t.generation.0) (eqb f.token.submission.0 t.submission.0 && eqb f.token.frame t.frame) e in
     let q = both (eqb f.token.submission.0 t.submission.0) (eqb f.token.frame t.frame) p.1 in
@@ -97,7 +89,7 @@ selected_fronted l next t (Some f) h e =
 pub selected_submits : (v : View) (m : Lent) (t : FrameToken) → Sound v → is_selected t v.selected ≡ true → (submitted_at v m t).outcome ≡ gives tt
 unfolding submitted_at
 selected_submits v m t h e =
-    ap (λ (o : Out Unit). o.outcome) (pick_true (seek (of_generation t.generation) v.transfers (refusal 24 v m) found) (refusal 24 v m) e)
+    ap (λ (o : Out Unit). o.outcome) (cond-true _ (seek (of_generation t.generation) v.transfers (refusal 24 v m) found) (refusal 24 v m) e)
     ∙ seek_cases {X = Out Unit} (λ o. o.outcome ≡ gives tt) (of_generation t.generation) v.transfers (refusal 24 v m) found
     (λ n. absurd (some_all (λ x a b. eqb-false x.generation.0 t.generation.0 b a.0) Some n))
     (λ i lt g. hands i (⊎_elim (λ k. k) (λ k. absurd (some_all (λ x a d. d.generation (eqb-true _ _ g ∙ sym a.0)) k (pairs-at v.transfers i blank_transfer lt (different_sym v.clock) h.different))) (some_removed v.transfers i blank_transfer lt Some)))
@@ -111,14 +103,14 @@ selected_submits v m t h e =
     hands : (i : ℕ) → Fronted t (get_or v.transfers i blank_transfer) → (found i (get_or v.transfers i blank_transfer)).outcome ≡ gives tt
     hands i k =
         let x = get_or v.transfers i blank_transfer in
-        ap (λ (o : Out Unit). o.outcome) (pick_true (handed_in v m t i x) (refusal 24 v m) (both_true k.1.0 k.1.1))
+        ap (λ (o : Out Unit). o.outcome) (cond-true _ (handed_in v m t i x) (refusal 24 v m) (and_from _ _ k.1.0 k.1.1))
 
 -- `submitted` refuses 24 exactly if the token is not the selected frame's
 pub submitted_stale : (v : View) (m : Lent) (t : FrameToken) → Sound v → ((submitted_at v m t).outcome ≡ refuses 24) ↔ (is_selected t v.selected ≡ false)
 unfolding submitted_at
 submitted_stale v m t h = (
-  (λ q. ⊎_elim (λ e. absurd (clash (sym (selected_submits v m t h e) ∙ q))) (λ e. e) (by_bool (is_selected t v.selected))),
-  (λ e. ap (λ (o : Out Unit). o.outcome) (pick_false (seek (of_generation t.generation) v.transfers (refusal 24 v m) found) (refusal 24 v m) e)),
+  (λ q. ⊎_elim (λ e. absurd (clash (sym (selected_submits v m t h e) ∙ q))) (λ e. e) (cases_Bool (is_selected t v.selected))),
+  (λ e. ap (λ (o : Out Unit). o.outcome) (cond-false _ (seek (of_generation t.generation) v.transfers (refusal 24 v m) found) (refusal 24 v m) e)),
 )
   where
     clash : ◌≡◌ {A = Outcome Unit} (gives tt) (refuses 24) → ⊥
@@ -131,7 +123,7 @@ submitted_stale v m t h = (
 
 -- a test that does not hold refuses nothing
 lets : {A : Type 0} (t : Bool) (n : ℕ) (next o : Outcome A) → t ≡ false → next ≡ o → refuse t n next ≡ o
-lets true n next o e q = absurd (true_false {x = true} refl e)
+lets true n next o e q = absurd (both_ways true e refl)
 lets false n next o e q = q
 
 -- the cut gives each frame below its count
@@ -212,7 +204,7 @@ choose_none_exactly v octets room h = go v.selected
           let q : (selects v x (gives p.0)).outcome ≡ gives None = ap (λ (o : Outcome PackedFrame). (selects v x o).outcome) (sym p.1) ∙ e in
           let z : ◌≡◌ {A = ℕ} 0 1 = cc in absurd (omega arith)),
       (λ k. seek_cases {X = After (Option PreparedFrame) View} (λ a. a.outcome ≡ gives None) is_ready v.transfers (says None v) (λ place x. selects v x (front_of x octets)) (λ n. refl)
-          (λ i lt t. absurd (true_false t (all-at v.transfers i blank_transfer lt k.1)))),
+          (λ i lt t. absurd (both_ways _ (all-at v.transfers i blank_transfer lt k.1) t))),
     )
 
 -- nor with a transfer put first

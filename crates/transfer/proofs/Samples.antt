@@ -1,13 +1,8 @@
 -- Lives of small senders, call by call, settled by one computed test each: the definitions say what the Rust says of the same
 -- calls. Every answer is the Rust's; where it has none, for refusals 16 and 18 and for tokens that no call gave, it is 01's.
 -- Assumes nothing.
-use mathlib.Core.Path.{◌≡◌, refl}
-use mathlib.Core.Bool.{Bool, true, false}
-use mathlib.Core.List.{List, [], ◌∷◌, ◌++◌, map}
-use Rattle.std.specs.Prelude.{Option, None, Some}
-use Prim.Native.Nat.{ℕ, ◌+◌}
+use Rattle.std.proofs.Common.{◌≡◌, ℕ, ◌+◌, Bool, true, false, List, [], ◌∷◌, ◌++◌, map, get_or, take, drop, replicate, Some, None, Option, refl}
 use lib.Count.{ones, ones_in, count_trailing_zeros}
-use lib.ListN.{take, drop, get_or, replicate}
 use Rattle.field.specs.Bits.{bit, bits, value, bits_of, octets}
 use Rattle.field.specs.Layout.{layout, up_to, any_set}
 use Rattle.rach.specs.Identity.{same, in_range, encodable}

@@ -1,14 +1,8 @@
 -- The Rust's searches are the definitions': the first free echo of a range, and the greatest age by filters and `max_by_key`. Assumes nothing.
-use mathlib.Core.Path.{◌≡◌, refl, sym, ap, ◌∙◌}
-use mathlib.Core.Bool.{Bool, true, false, cond}
-use mathlib.Core.List.{List, [], ◌∷◌, map, foldl}
-use Rattle.std.specs.Prelude.{Option, None, Some}
-use Prim.Native.Nat.{ℕ, zero, suc, ◌+◌, ◌-◌, ◌%◌, ◌≤◌, ◌<◌}
-use native.Mathlib.Numerals.{add-one}
-use native.Mathlib.Omega.{arith}
-use borrow.Author.Tests.{leb-true, leb-false, lt-leb, lt-ltb, le-ltb}
-use lib.Dec.{leb}
-use lib.ListN.{length, get_or, length-map}
+use Rattle.std.proofs.Common.{◌≡◌, ℕ, zero, suc, ◌+◌, ◌-◌, ◌%◌, ◌<◌, ◌≤◌, Bool, true, false, cond, leb, List, [], ◌∷◌, map, length, get_or, Some, None, Option, sym, refl, ap, ◌∙◌, add-one, arith, le-ltb, lt-ltb, leb-false, leb-true}
+use mathlib.Core.List.{foldl}
+use borrow.Author.Tests.{lt-leb}
+use lib.ListN.{length-map}
 use Rattle.transfer.specs.declared.Transfer.{Transfer}
 use Rattle.transfer.specs.Iterators.{range, find, filter, in_front, enumerate, filter_map, greater, max_by_key}
 use Rattle.transfer.specs.Lists.{position}

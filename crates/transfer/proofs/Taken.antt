@@ -1,16 +1,8 @@
 -- Which echoes a call takes, and what that makes of any list of calls from a fresh sender. Assumes nothing.
-use mathlib.Core.Path.{◌≡◌, refl, sym, ap, subst, ◌∙◌}
-use mathlib.Core.Logic.{◌⊎◌, inl, inr, ⊎_elim, ◌≢◌}
-use mathlib.Core.Bool.{false}
-use mathlib.Core.List.{List, [], ◌∷◌}
-use Rattle.std.specs.Prelude.{Some}
-use Prim.Native.Nat.{ℕ, ◌+◌, ◌≤◌, ◌<◌}
-use native.Mathlib.Omega.{arith}
-use lib.Dec.{eqb}
-use lib.ListN.{length, get_or, length-set}
-use borrow.Author.Tests.{eqb-true, eqb-false, leb-false, lt-leb, le-ltb}
+use Rattle.std.proofs.Common.{◌≡◌, ℕ, ◌+◌, ◌<◌, ◌≤◌, false, eqb, ◌≢◌, ◌⊎◌, List, [], ◌∷◌, length, get_or, Some, sym, refl, ap, ◌∙◌, subst, inl, inr, ⊎_elim, arith, length-set, le-ltb, eqb-true, leb-false}
+use Rattle.std.proofs.lemmas.Bool.{cases_Bool}
+use borrow.Author.Tests.{eqb-false, lt-leb}
 use Rattle.token.specs.Token.{stop}
-use Rattle.receiver.proofs.PushCases.{by_bool}
 use Rattle.transfer.specs.declared.Generation.{Generation}
 use Rattle.transfer.specs.declared.Transfer.{Transfer}
 use Rattle.transfer.specs.State.{Limits, Echoes, Clock, View, Lent, with_clock}
@@ -66,7 +58,7 @@ hold_grows e echo until long low h k =
     ⊎_elim
     (λ t. let q : k ≡ echo = eqb-true k echo t in rw (q, held_after e long echo until low) h)
     (λ t. rw (held_other e echo until k (eqb-false k echo t)) (omega arith))
-    (by_bool (eqb k echo))
+    (cases_Bool (eqb k echo))
 
 -- the 128 holds, and the next search
 abbrev Echoing : View → Type 0

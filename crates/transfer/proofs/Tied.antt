@@ -1,5 +1,5 @@
 -- The constants of the code are the numbers of the definitions. Assumes nothing.
-use mathlib.Core.Path.{◌≡◌, refl}
+use Rattle.std.proofs.Common.{◌≡◌, refl}
 use Rattle.transfer.specs.Constants as numbers
 use Rattle.transfer.specs.declared.constants.TheConstants.{ECHO_VALUES, RESTART_BLOCKS, REFRESH_BLOCKS, MESSAGE_OCTETS, MESSAGE_WORDS, STORE_OCTETS, STORE_WORDS, CALL_TOKENS}
 

@@ -1,11 +1,6 @@
 -- A list of calls after which a frame is prepared: what `Faithful` says of it, computed. Assumes nothing.
-use mathlib.Core.Path.{◌≡◌, refl, sym, ap, subst}
-use mathlib.Core.Bool.{Bool, true, false}
-use mathlib.Core.List.{List, [], ◌∷◌}
-use Rattle.std.specs.Prelude.{Some}
-use native.Mathlib.Omega.{arith}
+use Rattle.std.proofs.Common.{◌≡◌, Bool, true, false, List, [], ◌∷◌, get_or, replicate, Some, sym, refl, ap, subst, arith}
 use lib.Count.{ones, ones_in, count_trailing_zeros}
-use lib.ListN.{get_or, replicate}
 use Rattle.field.specs.Bits.{bits, value, bits_of, octets}
 use Rattle.field.specs.Layout.{layout, up_to, any_set}
 use Rattle.rach.specs.Identity.{same, in_range, encodable}

@@ -103,6 +103,11 @@ pub enum Event {
 
 // What the unused places of a list of events hold.
 impl Default for Event {
+    ghost use Rattle.std.specs.Prelude.{◌≡◌};
+    ghost use Rattle.transfer.specs.declared.Event.TheVariants.{Complete};
+
+    ghost is_default = { λ event. event ≡ Complete 0 };
+
     fn default() -> Event {
         Event::Complete(0)
     }
@@ -168,6 +173,11 @@ pub struct Transfer {
 
 // What the unused places of a list of transfers hold.
 impl Default for Transfer {
+    ghost use Rattle.std.specs.Prelude.{◌≡◌};
+    ghost use Rattle.transfer.specs.State.{blank_transfer};
+
+    ghost is_default = { λ x. x ≡ blank_transfer };
+
     fn default() -> Transfer {
         let parcel = Parcel {
             identity: MobileIdentity::Tmsi20(0),

@@ -1,5 +1,5 @@
 -- `transfer::frame::packed_of` meets its contract. Assumes nothing.
-use mathlib.Core.Path.{◌∙◌}
+use Rattle.std.proofs.Common.{◌∙◌}
 use Rattle.spach.specs.Refusal.{number_of}
 use Rattle.spach.proofs.Outcomes.{handed_on}
 use Rattle.transfer.proofs.Framed.{cut_out, packed_by}

@@ -1,9 +1,5 @@
 -- `transfer::store::store_message` meets its contract. Assumes nothing.
-use mathlib.Core.Path.{◌∙◌, ap}
-use mathlib.Core.List.{List, ◌++◌}
-use Prim.Native.Nat.{ℕ, ◌+◌, ◌*◌, ◌-◌}
-use native.Mathlib.Omega.{arith}
-use lib.ListN.{take, drop}
+use Rattle.std.proofs.Common.{ℕ, ◌+◌, ◌-◌, ◌*◌, List, ◌++◌, take, drop, ap, ◌∙◌, arith}
 use Rattle.transfer.proofs.Stored.{part_back}
 use Rattle.transfer.proofs.store.store_message.Goals as goal
 
