@@ -57,7 +57,8 @@ impl FrameKind {
     }
 }
 
-// A frame of either kind, in 01's form and the Rust's. Only the fields of its kind are read.
+// A frame of either kind, in 01's form and the Rust's. Only the fields of its kind are read; a kind has other fields than the
+// other, so what checks, writes, reads or makes a frame is a function for each.
 #[derive(Clone, Copy, Debug, PartialEq, Eq)]
 pub struct ArqFrame {
     pub kind: FrameKind,

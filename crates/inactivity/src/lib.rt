@@ -39,6 +39,7 @@ pub enum InactivityError {
     ClockBackwards,
 }
 
+// 01's number.
 impl Numbered for InactivityError {
     ghost number_of = { clock_number };
 
@@ -80,6 +81,7 @@ impl From<InactivityError> for ProcedureError {
     }
 }
 
+// 01's numbers.
 impl Numbered for ProcedureError {
     ghost number_of = { refusal_of };
 

@@ -101,7 +101,7 @@ pub fn show<R: Read, W: Write>(input: &mut R, output: &mut W, limit: u64) -> u64
     left
 }
 
-// Reads on and prints nothing, until `left` octets are read or the input ends.
+// Reads on and prints nothing, until `left` octets are read or the input ends: the loop ends where a read gives none.
 pub fn skip<R: Read>(input: &mut R, mut left: u64) {
     let mut room = [0u8; 64];
     loop {

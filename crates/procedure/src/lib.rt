@@ -92,7 +92,8 @@ fn let_through(
     Ok(timer.tick(tdma_block)?)
 }
 
-// The timer after an accepted frame (`begin` is the Rust's `is_begin`): a Begin resets it; while the message is not complete it waits from the clock's block on.
+// The timer after an accepted frame (`begin` is the Rust's `is_begin`): a Begin resets it; while the message is not complete it
+// waits from the clock's block on.
 fn timed(begin: bool, complete: bool, timer: ArqInactivity) -> ArqInactivity
     ensures { result ≡ timed begin complete timer }
 {
@@ -183,7 +184,7 @@ impl ArqProcedure {
         }
     }
 
-    // At the moved clock.
+    // At the moved clock, with room for 255 octets, as `push_frame` asks.
     fn hear(self, octets: &[u8], buffer: &mut [u8]) -> (Self, Result<ReceiveEvent, ProcedureError>)
         requires { 255 ≤ length buffer.old }
         ensures { received result buffer.new ≡ decoded self buffer.old (decode_of octets.now) }

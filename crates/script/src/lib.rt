@@ -73,6 +73,7 @@ struct Script {
 impl Machine for Script {
     type Op = Op;
 
+    // A match: each operation has operands and an answer of its own.
     fn run(&mut self, op: Op, operands: Operands<'_>, answers: &mut [u8]) -> usize {
         match op {
             Op::Leaf(op) => self.leaf.run(op, operands, answers),

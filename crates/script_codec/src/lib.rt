@@ -87,6 +87,7 @@ fn decode(mut operands: Operands<'_>) -> Answer<36>
     Ok(frame_values(arq::read::decode(operands.frame()?)?))
 }
 
+// As many octets as the protocol has room for; an operation says how many of them are a message.
 #[derive(Clone, Copy, Debug, PartialEq, Eq)]
 pub struct Message {
     octets: [u8; 304],
@@ -125,6 +126,7 @@ impl Message {
 impl Machine for Message {
     type Op = Op;
 
+    // A match: each operation has operands and an answer of its own.
     fn run(&mut self, op: Op, operands: Operands<'_>, answers: &mut [u8]) -> usize {
         match op {
             Op::Encode => put(answers, encode(operands)),

@@ -29,6 +29,7 @@ fn flags(operands: &mut Operands<'_>) -> Result<HeaderFlags, Refused>
     })
 }
 
+// As a frame and a transmission have it.
 pub fn response_mode(operands: &mut Operands<'_>) -> Result<ResponseMode, Refused>
     requires { 1 ≤ length operands.old }
     ensures { length operands.old ≡ length operands.new + 1 }
@@ -49,19 +50,12 @@ pub fn header(operands: &mut Operands<'_>) -> Result<ArqHeader, Refused>
     })
 }
 
-fn kind(operands: &mut Operands<'_>) -> Result<FrameKind, Refused>
-    requires { 1 ≤ length operands.old }
-    ensures { length operands.old ≡ length operands.new + 1 }
-{
-    operands.either(FrameKind::Begin, FrameKind::Continue)
-}
-
 pub fn frame(operands: &mut Operands<'_>) -> Result<ArqFrame, Refused>
     requires { 36 ≤ length operands.old }
     ensures { OnOk result (length operands.old ≡ length operands.new + 36) }
 {
     Ok(ArqFrame {
-        kind: kind(operands)?,
+        kind: operands.either(FrameKind::Begin, FrameKind::Continue)?,
         header: header(operands)?,
         identity: operands.identity()?,
         message_octets: operands.octet(),

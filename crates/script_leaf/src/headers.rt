@@ -4,7 +4,7 @@ ghost use Rattle.std.specs.Prelude.{◌≡◌, length};
 use script_wire::{Answer, NO_CALL, Operands, Values};
 use spach::{HeaderFlags, Reader};
 
-// The flags in one octet.
+// The flags in one octet, the protocol's.
 pub fn flags_octet(flags: HeaderFlags) -> u8 {
     u8::from(flags.pch_continuation) << 3
         | u8::from(flags.bcch_change) << 2

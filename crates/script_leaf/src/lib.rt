@@ -62,6 +62,7 @@ pub struct Leaf;
 impl Machine for Leaf {
     type Op = Op;
 
+    // A match: each operation has operands and an answer of its own.
     fn run(&mut self, op: Op, operands: Operands<'_>, answers: &mut [u8]) -> usize {
         match op {
             Op::Parts => put(answers, identities::parts(operands)),

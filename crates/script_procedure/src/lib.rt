@@ -149,6 +149,7 @@ impl Procedure {
 impl Machine for Procedure {
     type Op = Op;
 
+    // A match: each operation has operands and an answer of its own.
     fn run(&mut self, op: Op, operands: Operands<'_>, answers: &mut [u8]) -> usize {
         match op {
             Op::New => put(answers, self.make(operands)),

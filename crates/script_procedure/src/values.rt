@@ -7,13 +7,6 @@ use receiver::{ArqStatus, StatusRequest};
 use script_receiver::values::{put_message, put_status};
 use script_wire::{Operands, Refused, Values};
 
-fn kind(operands: &mut Operands<'_>) -> Result<StatusKind, Refused>
-    requires { 1 ≤ length operands.old }
-    ensures { length operands.old ≡ length operands.new + 1 }
-{
-    operands.either(StatusKind::Solicited, StatusKind::Unsolicited)
-}
-
 pub fn transmission(operands: &mut Operands<'_>) -> Result<StatusTransmission, Refused>
     requires { 16 ≤ length operands.old }
     ensures { OnOk result (length operands.old ≡ length operands.new + 16) }
@@ -29,7 +22,7 @@ pub fn transmission(operands: &mut Operands<'_>) -> Result<StatusTransmission, R
             response_mode,
         },
         token: TransactionToken(operands.eight()),
-        kind: kind(operands)?,
+        kind: operands.either(StatusKind::Solicited, StatusKind::Unsolicited)?,
         complete_at_poll: operands.flag()?,
     })
 }
@@ -65,7 +58,9 @@ pub fn put_receive<const N: usize>(values: &mut Values<N>, event: ReceiveEvent)
     put_transmission(values, status);
 }
 
-pub fn timer_values(event: TimerEvent) -> Values<18> {
+pub fn timer_values(event: TimerEvent) -> Values<18>
+    ensures { length result ≡ 18 }
+{
     let (kind, status) = match event {
         TimerEvent::None => (0, None),
         TimerEvent::SendStatus(status) => (1, Some(status)),

@@ -120,6 +120,7 @@ impl Receiver {
 impl Machine for Receiver {
     type Op = Op;
 
+    // A match: each operation has operands and an answer of its own.
     fn run(&mut self, op: Op, operands: Operands<'_>, answers: &mut [u8]) -> usize {
         match op {
             Op::New => put(answers, self.make(operands)),

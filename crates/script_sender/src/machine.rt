@@ -351,6 +351,7 @@ impl<'a> Lender<'a> {
 impl Machine for Lender<'_> {
     type Op = Op;
 
+    // A match: each operation has operands and an answer of its own.
     fn run(&mut self, op: Op, operands: Operands<'_>, answers: &mut [u8]) -> usize {
         match op {
             Op::Message => put(answers, script_store::fill(&mut self.message, operands)),

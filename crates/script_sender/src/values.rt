@@ -1,4 +1,4 @@
-// A sender's values in an answer: zeros for what there is not.
+// A sender's values in an answer: zeros for what there is not, each as many as its values.
 ghost use Rattle.std.specs.Prelude.{◌≡◌, ◌+◌, ◌≤◌, length};
 
 use script_wire::{Values, low};

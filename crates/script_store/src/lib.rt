@@ -82,6 +82,7 @@ pub fn fill(memory: &mut [u8], mut operands: Operands<'_>) -> Answer<0>
     Ok(Values::new())
 }
 
+// The protocol's size.
 #[derive(Clone, Copy, Debug, PartialEq, Eq)]
 pub struct Store {
     octets: [u8; 64],
@@ -133,6 +134,7 @@ impl Store {
 impl Machine for Store {
     type Op = Op;
 
+    // A match: each operation has operands and an answer of its own.
     fn run(&mut self, op: Op, operands: Operands<'_>, answers: &mut [u8]) -> usize {
         match op {
             Op::Take => put(answers, self.take(operands)),

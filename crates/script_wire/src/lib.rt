@@ -112,6 +112,7 @@ impl<'a> Operands<'a> {
         }
     }
 
+    // The protocol's flag.
     pub fn flag(&mut self) -> Result<bool, Refused>
         requires { 1 ≤ length self.old }
         ensures { length self.old ≡ length self.new + 1 }
@@ -186,7 +187,7 @@ impl<const N: usize> From<[u8; N]> for Values<N> {
 }
 
 impl Values<1> {
-    // One octet, 1 or 0.
+    // The protocol's flag: one octet, 1 or 0.
     pub fn flag(flag: bool) -> Self
         ensures { result ≡ from_bool flag ∷ [] }
     {
@@ -217,7 +218,7 @@ impl<const N: usize> Values<N> {
         self.octets.try_extend_from_slice(octets).unwrap();
     }
 
-    // Eight octets.
+    // The protocol's number: eight octets.
     pub fn number(&mut self, number: u64)
         requires { length self.old + 8 ≤ N }
         ensures { length self.new ≡ length self.old + 8 }

@@ -8,7 +8,7 @@ use crate::{Answer, Operands, Refused};
 pub struct Unknown;
 
 // An operation, by its octet. Its row of the protocol's table has that octet, and how many octets operands and longest
-// answer have.
+// answer have. Each crate writes its own: the gate refuses an impl that a macro of the repository writes.
 pub trait Operation: TryFrom<u8, Error = Unknown> + Copy {
     ghost row_of: { Self → ℕ × ℕ × ℕ };
 
@@ -18,7 +18,7 @@ pub trait Operation: TryFrom<u8, Error = Unknown> + Copy {
         ensures longest { result.1 ≡ (row_of self).2 };
 }
 
-// What a script runs on. Each runs an operation by a match, as each has operands and an answer of its own.
+// What a script runs on.
 pub trait Machine {
     type Op: Operation;
 

@@ -16,6 +16,8 @@ use transfer::{Clock, Event, Generation, Limits, PreparedFrame, Transfer, Transf
 // Room for the events of as many transfers as may be live, twice over.
 const MOST_EVENTS: usize = 256;
 
+// Between two steps of a call nothing need hold of it, so it has no invariant: a step asks for what it needs, room for an event,
+// tokens left or octets lent, and what `admit` found out, or a sender's invariant, gives it.
 #[derive(Clone, Drop)]
 pub struct Table {
     pub limits: Limits,

@@ -73,7 +73,7 @@ impl Table {
     }
 
     // Each transfer in turn; the restart of the one at `asked` is asked for. Those that go on move up in place: a list taken
-    // out and made anew would be two more copies of 16 kilobytes.
+    // out and made anew would be two more copies of 16 kilobytes, and `retain` cannot hold it while a turn changes the table.
     fn walk(&mut self, asked: Option<usize>)
         requires { Sound (view_of self.old) }
         ensures { view_of self.new ≡ advance.walk (view_of self.old) (asked_at asked self.old.transfers.items) }
@@ -91,7 +91,8 @@ impl Table {
 }
 
 impl Sender {
-    // Each transfer ends, begins again or stays, and the restart of the one at `asked` is asked for.
+    // Each transfer ends, begins again or stays, and the restart of the one at `asked` is asked for. That a sender is left whole
+    // is shown here once.
     pub(crate) fn walk(&mut self, asked: Option<usize>)
         requires { 128 + self.old.next_token ≤ stop }
         ensures walked { self.new ≡ advance.walk self.old (asked_at asked self.old.transfers) }

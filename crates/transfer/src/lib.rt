@@ -50,6 +50,7 @@ pub enum Error {
     Wire(SpachError),
 }
 
+// 01's numbers.
 impl Numbered for Error {
     ghost number_of = { refusal_of };
 
@@ -92,7 +93,7 @@ pub struct Clock {
     pub last_ms: u64,
 }
 
-// How a transfer ended, with its completion number.
+// How a transfer ended, with its completion number. The Rust's own, as 01 has it.
 #[derive(Clone, Copy, Debug, PartialEq, Eq)]
 pub enum Event {
     Complete(u64),
@@ -193,7 +194,7 @@ impl Default for Transfer {
     }
 }
 
-// What becomes of a transfer in `advance`.
+// What becomes of a transfer in `advance`: three ways, none of which is a refusal.
 #[derive(Clone, Copy, Debug, PartialEq, Eq)]
 pub enum Fate {
     Ends(Event),
@@ -201,7 +202,7 @@ pub enum Fate {
     Stays(Transfer),
 }
 
-// A frame ready to be sent, and the token under which it is reported.
+// A frame ready to be sent, and the token under which it is reported. 01's form.
 #[derive(Clone, Copy, Debug, PartialEq, Eq)]
 pub struct PreparedFrame {
     pub identity: MobileIdentity,

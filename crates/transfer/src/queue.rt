@@ -1,9 +1,9 @@
-// Sets of frames, each a number: bit k is frame k's.
+// Sets of frames, each a number: bit k is frame k's, as in the Rust. A shift needs a frame below 32, so it is asked for here.
 // Ported from runtime/spach_arq.rs (chrismoos/136-bts 7c60b63bf4, Apache-2.0) and changed: see NOTICE.
 ghost use Rattle.std.specs.Prelude.{◌≡◌, ◌≤◌, ◌<◌};
 ghost use Rattle.transfer.specs.Queue as sets;
 
-// The lowest frame, 32 of no frame.
+// The lowest frame, 32 of no frame: the definition counts zeros, and so does this.
 pub fn front(queue: u32) -> usize
     ensures { (result ≡ sets.front queue) × (result ≤ 32) }
 {

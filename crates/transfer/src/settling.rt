@@ -8,7 +8,7 @@ use super::constants::RESTART_BLOCKS;
 use super::queue::{continues_of, first_frames, full, without};
 use super::{Blocks, Generation, Parcel, Sets, Transfer};
 
-// At least so many blocks have passed since. A later block counts as none passed.
+// At least so many blocks have passed since, a rule of the sender, and no order of its own: a later block counts as none passed.
 pub fn passed(limit: u64, block: u64, since: Option<u64>) -> bool
     ensures { result ≡ model.passed limit block since }
 {
