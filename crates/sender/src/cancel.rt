@@ -50,14 +50,14 @@ impl Sender {
     }
 
     // If one was found at this place, it is taken out, and Cancelled; whether one was.
-    pub(crate) fn cancel_found(mut self, place: Option<usize>) -> (Self, bool)
-        requires { IfSome place (λ i. i < length self.transfers) }
-        ensures { (passes : Transfer → Bool) → place ≡ position passes self.transfers → says result.1 result.0 ≡ cancel_first passes self }
+    pub(crate) fn cancel_found(&mut self, place: Option<usize>) -> bool
+        requires { IfSome place (λ i. i < length self.old.transfers) }
+        ensures { (passes : Transfer → Bool) → place ≡ position passes self.old.transfers → says result self.new ≡ cancel_first passes self.old }
     {
         let Some(place) = place else {
-            return (self, false);
+            return false;
         };
         self.cancel_at(place);
-        (self, true)
+        true
     }
 }

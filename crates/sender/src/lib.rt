@@ -293,20 +293,22 @@ impl Sender {
 
     // Whether there was a transfer to this identity.
     #[tactic(auto, unfolding(transfer::specs::Cancel::cancel_of))]
-    pub fn cancel(self, identity: MobileIdentity) -> (Self, bool)
+    pub fn cancel(mut self, identity: MobileIdentity) -> (Self, bool)
         ensures { says result.1 result.0 ≡ cancel_of self identity }
     {
         let place = self.table.place_of_identity(identity);
-        self.cancel_found(place)
+        let found = self.cancel_found(place);
+        (self, found)
     }
 
     // Whether there was a transfer of this token.
     #[tactic(auto, unfolding(transfer::specs::Cancel::cancel_transaction_of))]
-    pub fn cancel_transaction(self, token: TransferToken) -> (Self, bool)
+    pub fn cancel_transaction(mut self, token: TransferToken) -> (Self, bool)
         ensures { says result.1 result.0 ≡ cancel_transaction_of self token }
     {
         let place = self.table.place_of_owner(token);
-        self.cancel_found(place)
+        let found = self.cancel_found(place);
+        (self, found)
     }
 
     pub fn cancel_all(mut self) -> Self
