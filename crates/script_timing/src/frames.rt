@@ -30,12 +30,16 @@ pub fn told(frame: &ArqFrame, round: u64) -> u64 {
     u64::from(frame.header.partial_echo) ^ u64::from(number) ^ octet
 }
 
-// The frame operand is read once, and encoded under every echo in turn; nothing, if it names no frame.
+// The frame operand is read once, and encoded under every echo in turn; nothing, if it names no frame. A kind above 1,
+// which a script's operand may not have, is a Continue here.
 pub fn encode(operand: &[u8]) -> u64 {
     if operand.len() < 36 {
         return 0;
     }
-    let Ok(mut frame) = operands::frame(&mut Operands::new(operand)) else {
+    let mut octets = [0; 36];
+    octets.copy_from_slice(&operand[..36]);
+    octets[0] = octets[0].min(1);
+    let Ok(mut frame) = operands::frame(&mut Operands::new(&octets)) else {
         return 0;
     };
     let mut sum: u64 = 0;
