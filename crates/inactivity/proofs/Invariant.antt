@@ -1,4 +1,4 @@
--- Each definition of a call keeps the invariant; that the code does is the invariant of its type. Assumes nothing.
+-- Each definition of a call keeps the invariant; that the code does is `sound` of each call. Assumes nothing.
 use Rattle.std.proofs.Common.{◌≡◌, ℕ, ◌≤◌, Bool, true, false, cond, not, ◌&&◌, sym, refl, subst, arith}
 use Rattle.spach.specs.Refusal.{gives, After, onward}
 use Rattle.inactivity.specs.declared.TransactionToken.{TransactionToken}

@@ -183,7 +183,7 @@ PendingFits (Waiting since) p = Unit
 PendingFits SendingUnsolicited p = p ≡ true
 PendingFits (FinalWait since) p = p ≡ false
 
--- what every timer is: the invariant of its type
+-- what every timer is that the constructor and the calls make: each call says so (`sound`), and none asks for it
 pub record Sound (s : Timer) : Type 0 where
   -- no block difference goes below zero
   pub since : since_of s.state ≤ s.last_block

@@ -5,9 +5,9 @@
 pub mod lent;
 
 ghost use Rattle.std.specs.Prelude.{◌≡◌, IfOk, IfErr};
-ghost use Rattle.inactivity.specs.Inactivity.{Timer, new_of, token_of, owns_of, renewed, waiting, sent_from, enough, ticked, admitted, reset_of, observe_of, received_frame_of, due_of, advance_of, unsolicited_at, unsolicited_of, solicited_at, solicited_of, reported, clock_number, refusal_of};
+ghost use Rattle.inactivity.specs.Inactivity.{Timer, Sound, new_of, token_of, owns_of, renewed, waiting, sent_from, enough, ticked, admitted, reset_of, observe_of, received_frame_of, due_of, advance_of, unsolicited_at, unsolicited_of, solicited_at, solicited_of, reported, clock_number, refusal_of};
 ghost use Rattle.inactivity.specs.Apart.{clocks_apart, refusals_apart};
-ghost use Rattle.inactivity.specs.Result.{Does};
+ghost use Rattle.inactivity.specs.Result.{Does, Keeps};
 ghost use Rattle.spach.specs.Refusal.{number_of, by_number, left};
 
 use spach::{Numbered, SpachError};
@@ -117,24 +117,22 @@ impl State {
     }
 }
 
-// Contracts see a Timer (specs/Inactivity.antt), and every value is Sound.
+// Contracts see a Timer (specs/Inactivity.antt). The calls take any, and keep what is Sound so (`sound`).
 #[derive(Clone, Copy, Debug, PartialEq, Eq)]
 pub struct ArqInactivity {
-    state: State,
-    last_block: u64,
-    unsolicited_pending: bool,
-    transaction: TransactionToken,
-    next_token: u64,
+    pub state: State,
+    pub last_block: u64,
+    pub unsolicited_pending: bool,
+    pub transaction: TransactionToken,
+    pub next_token: u64,
 }
 
 impl Model for ArqInactivity {
-    ghost use Rattle.inactivity.specs.Inactivity.{Timer, Sound};
+    ghost use Rattle.inactivity.specs.Inactivity.{Timer};
 
     ghost Value = { Timer };
 
     ghost view = { λ t. record { state = t.state; last_block = t.last_block; unsolicited_pending = t.unsolicited_pending; transaction = t.transaction; next_token = t.next_token } };
-
-    ghost invariant = { λ t. Sound (view t) };
 
     ghost inverse = { λ t. record { state = t.state; last_block = t.last_block; unsolicited_pending = t.unsolicited_pending; transaction = t.transaction; next_token = t.next_token } };
 }
@@ -153,7 +151,8 @@ pub fn onward<S: Copy, A, E>(state: S, call: Result<(S, A), E>) -> (S, Result<A,
 impl ArqInactivity {
     // Idle, under the first token.
     pub fn new(first: u64) -> Self
-        ensures { result ≡ new_of first }
+        ensures exact { result ≡ new_of first }
+        ensures sound { Sound result }
     {
         ArqInactivity {
             state: State::Idle,
@@ -202,7 +201,8 @@ impl ArqInactivity {
 
     // The Rust's reset, inner ones too: idle, under the next token. How many are left is its callers' to ask.
     pub fn renew(self) -> Self
-        ensures { result ≡ renewed self }
+        ensures exact { result ≡ renewed self }
+        ensures sound { Sound result }
     {
         ArqInactivity {
             state: State::Idle,
@@ -215,7 +215,8 @@ impl ArqInactivity {
 
     // Waiting from the clock's block on.
     pub fn wait(mut self) -> Self
-        ensures { result ≡ waiting self }
+        ensures exact { result ≡ waiting self }
+        ensures sound { Sound self → Sound result }
     {
         self.state = State::Waiting {
             since_block: self.last_block,
@@ -225,7 +226,8 @@ impl ArqInactivity {
 
     // Fewer than 4 tokens left: 18.
     pub fn enough(self) -> Result<Self, SpachError>
-        ensures { by_number number_of result ≡ enough self }
+        ensures exact { by_number number_of result ≡ enough self }
+        ensures sound { Sound self → IfOk result (λ t. Sound t) }
     {
         if token::fewer_than(4, self.next_token) {
             return Err(SpachError::Tokens);
@@ -235,7 +237,8 @@ impl ArqInactivity {
 
     // The clock gone back: 17; else it is moved.
     pub fn tick(mut self, tdma_block: u64) -> Result<Self, InactivityError>
-        ensures { by_number clock_number result ≡ ticked self tdma_block }
+        ensures exact { by_number clock_number result ≡ ticked self tdma_block }
+        ensures sound { Sound self → IfOk result (λ t. Sound t) }
     {
         if tdma_block < self.last_block {
             return Err(InactivityError::ClockBackwards);
@@ -246,25 +249,27 @@ impl ArqInactivity {
 
     // 18, then 17; else the clock is moved.
     pub fn admit(self, tdma_block: u64) -> Result<Self, ProcedureError>
-        ensures { by_number refusal_of result ≡ admitted self tdma_block }
+        ensures exact { by_number refusal_of result ≡ admitted self tdma_block }
+        ensures sound { Sound self → IfOk result (λ t. Sound t) }
     {
         Ok(self.enough()?.tick(tdma_block)?)
     }
 
     // What is due at the clock's block.
     pub fn due(mut self) -> (Self, InactivityAction)
-        ensures { result ≡ due_of self }
+        ensures exact { result ≡ due_of self }
+        ensures sound { Sound self → Sound result.0 }
     {
         match self.state {
             State::Waiting { since_block }
                 if !self.unsolicited_pending
-                    && INACTIVITY_BLOCKS <= self.last_block - since_block => {
+                    && INACTIVITY_BLOCKS <= self.last_block.saturating_sub(since_block) => {
                 self.state = State::SendingUnsolicited;
                 self.unsolicited_pending = true;
                 (self, InactivityAction::RequestUnsolicitedStatus)
             }
             State::FinalWait { since_block }
-                if INACTIVITY_BLOCKS <= self.last_block - since_block => {
+                if INACTIVITY_BLOCKS <= self.last_block.saturating_sub(since_block) => {
                 (self.renew(), InactivityAction::Terminate)
             }
             _ => (self, InactivityAction::None),
@@ -273,7 +278,8 @@ impl ArqInactivity {
 
     // An unsolicited status was sent, or was not, at the clock's block.
     pub fn unsolicited_at(mut self, res: StatusResult) -> (Self, InactivityAction)
-        ensures { result ≡ unsolicited_at res self }
+        ensures exact { result ≡ unsolicited_at res self }
+        ensures sound { Sound self → Sound result.0 }
     {
         if !self.unsolicited_pending {
             return (self, InactivityAction::None);
@@ -290,7 +296,8 @@ impl ArqInactivity {
 
     // A solicited status was sent, or was not, at the clock's block.
     pub fn solicited_at(self, res: StatusResult) -> (Self, InactivityAction)
-        ensures { result ≡ solicited_at res self }
+        ensures exact { result ≡ solicited_at res self }
+        ensures sound { Sound self → Sound result.0 }
     {
         if self.state == State::Idle {
             return (self, InactivityAction::None);
@@ -303,14 +310,16 @@ impl ArqInactivity {
 
     #[tactic(auto, unfolding(crate::specs::Inactivity::reset_of))]
     pub fn reset(self) -> (Self, Result<(), SpachError>)
-        ensures { left number_of result ≡ reset_of self }
+        ensures exact { left number_of result ≡ reset_of self }
+        ensures sound { Sound self → Sound result.0 }
     {
         onward(self, self.enough().map(|timer| (timer.renew(), ())))
     }
 
     #[tactic(auto, unfolding(crate::specs::Inactivity::observe_of))]
     pub fn observe(self, tdma_block: u64) -> (Self, Result<(), InactivityError>)
-        ensures { left clock_number result ≡ observe_of self tdma_block }
+        ensures exact { left clock_number result ≡ observe_of self tdma_block }
+        ensures sound { Sound self → Sound result.0 }
     {
         onward(self, self.tick(tdma_block).map(|timer| (timer, ())))
     }
@@ -318,7 +327,8 @@ impl ArqInactivity {
     // For a matching accepted frame, only while message frames remain pending.
     #[tactic(auto, unfolding(crate::specs::Inactivity::received_frame_of))]
     pub fn received_frame(self, tdma_block: u64) -> (Self, Result<(), InactivityError>)
-        ensures { left clock_number result ≡ received_frame_of self tdma_block }
+        ensures exact { left clock_number result ≡ received_frame_of self tdma_block }
+        ensures sound { Sound self → Sound result.0 }
     {
         onward(self, self.tick(tdma_block).map(|timer| (timer.wait(), ())))
     }
@@ -326,7 +336,8 @@ impl ArqInactivity {
     // IS-136.1-A 5.4.2.2: both inactivity intervals are 32 TDMA blocks.
     #[tactic(auto, unfolding(crate::specs::Inactivity::advance_of))]
     pub fn advance(self, tdma_block: u64) -> (Self, Result<InactivityAction, ProcedureError>)
-        ensures { left refusal_of result ≡ advance_of self tdma_block }
+        ensures exact { left refusal_of result ≡ advance_of self tdma_block }
+        ensures sound { Sound self → Sound result.0 }
     {
         onward(self, self.admit(tdma_block).map(Self::due))
     }
@@ -339,7 +350,8 @@ impl ArqInactivity {
         heed: F,
     ) -> (Self, Result<InactivityAction, ProcedureError>)
         requires { F.IsAlwaysCallable heed }
-        ensures { (f : Timer → Timer × InactivityAction) → Does (F.post heed) f → left refusal_of result ≡ reported self token tdma_block f }
+        ensures exact { (f : Timer → Timer × InactivityAction) → Does (F.post heed) f → left refusal_of result ≡ reported self token tdma_block f }
+        ensures sound { Keeps (F.post heed) → Sound self → Sound result.0 }
     {
         if !self.owns(token) {
             return (self, Ok(InactivityAction::None));
@@ -354,7 +366,8 @@ impl ArqInactivity {
         tdma_block: u64,
         res: StatusResult,
     ) -> (Self, Result<InactivityAction, ProcedureError>)
-        ensures { left refusal_of result ≡ unsolicited_of self token tdma_block res }
+        ensures exact { left refusal_of result ≡ unsolicited_of self token tdma_block res }
+        ensures sound { Sound self → Sound result.0 }
     {
         self.status_result(token, tdma_block, |timer| timer.unsolicited_at(res))
     }
@@ -366,7 +379,8 @@ impl ArqInactivity {
         tdma_block: u64,
         res: StatusResult,
     ) -> (Self, Result<InactivityAction, ProcedureError>)
-        ensures { left refusal_of result ≡ solicited_of self token tdma_block res }
+        ensures exact { left refusal_of result ≡ solicited_of self token tdma_block res }
+        ensures sound { Sound self → Sound result.0 }
     {
         self.status_result(token, tdma_block, |timer| timer.solicited_at(res))
     }

@@ -1,5 +1,5 @@
 -- The ways of a call through its definition, by what comes of it. Assumes nothing.
-use Rattle.std.proofs.Common.{◌≡◌, ℕ, ◌≤◌, Bool, true, false, cond, not, ◌&&◌, ◌⊎◌, List, length, is_some, Some, None, Option, sym, refl, ap, ◌∙◌, subst, inl, inr}
+use Rattle.std.proofs.Common.{◌≡◌, ℕ, ◌≤◌, Bool, true, false, cond, not, ◌&&◌, ◌⊎◌, List, length, is_some, Option, unwrap_or, sym, refl, ap, ◌∙◌, subst, inl, inr}
 use Rattle.receiver.specs.declared.SingleMessage.{SingleMessage}
 use Rattle.receiver.specs.declared.StatusRequest.{StatusRequest}
 use Rattle.token.specs.Token.{fewer_than}
@@ -30,7 +30,7 @@ use Rattle.procedure.specs.declared.TimerEvent.{TimerEvent}
 use Rattle.procedure.specs.declared.TimerEvent.TheVariants as timers
 use Rattle.procedure.specs.declared.SendEvent.{SendEvent}
 use Rattle.procedure.specs.declared.SendEvent.TheVariants as sends
-use Rattle.procedure.specs.Procedure.{Procedure, Out, with_timer, ended, admits, says, reset_of, receive_of, unsolicited, sends_status, follows, due_at, advance_of, after_sent, sent_at, status_sent_of}
+use Rattle.procedure.specs.Procedure.{Procedure, Out, with_timer, ended, admits, says, reset_of, receive_of, unsolicited, blank_status, sends_status, follows, due_at, advance_of, after_sent, sent_at, status_sent_of}
 use Rattle.procedure.specs.Parts.{accepted, by_answer, decoded, let_through, then_hears}
 use Rattle.procedure.proofs.Invariant.{let_through_gives, ignored-same, refused_same}
 use Rattle.procedure.proofs.Parts.{receive_parts}
@@ -112,14 +112,12 @@ module _ (P : After TimerEvent Procedure → Type 0) (q : Procedure)
 abbrev pub asks_at : Procedure → ℕ → Procedure
 asks_at p b = with_timer p (in_state (clocked p.inactivity b) SendingUnsolicited true)
 
--- where a status is asked for, the answer is that status, or None where there is none to tell, and never the end
-pub sends_that : (p : Procedure) (o : Option ArqStatus) (t : StatusTransmission) → gives (sends_status p o) ≡ gives (timers.SendStatus t) → (o ≡ Some t.request.status) × (p.inactivity.transaction ≡ t.token)
-sends_that p (Some x) t e = let z : unsolicited p x ≡ t = cc in (ap (λ (y : StatusTransmission). Some y.request.status) z, ap (λ (y : StatusTransmission). y.token) z)
-sends_that p None t e = cc
+-- where a status is asked for, the answer is that status, and never the end
+pub sends_that : (p : Procedure) (o : Option ArqStatus) (t : StatusTransmission) → gives (sends_status p o) ≡ gives (timers.SendStatus t) → (unwrap_or o blank_status ≡ t.request.status) × (p.inactivity.transaction ≡ t.token)
+sends_that p o t e = let z : unsolicited p (unwrap_or o blank_status) ≡ t = cc in (ap (λ (y : StatusTransmission). y.request.status) z, ap (λ (y : StatusTransmission). y.token) z)
 
 pub sends_no_end : (p : Procedure) (o : Option ArqStatus) → gives (sends_status p o) ≡ gives timers.Terminated → ⊥
-sends_no_end p (Some x) e = cc
-sends_no_end p None e = cc
+sends_no_end p o e = cc
 
 -- refused, or due at the moved clock
 pub advance_ways : (P : After TimerEvent Procedure → Type 0) (p : Procedure) (b : ℕ) → ((n : ℕ) → P (record { outcome = refuses n; state = p }))

@@ -1,6 +1,6 @@
 -- Each call of the procedure on every state: its answer and the procedure afterwards, said by the fields themselves, over what the receiver
 -- and the timer do by their own laws. A definition that is changed, and its code alike, meets these no more. Assumes nothing.
-use Rattle.std.proofs.Common.{◌≡◌, ℕ, ◌^◌, ◌<◌, ◌≤◌, Bool, true, false, cond, List, length, is_some, Some, None, Option, option_map, sym, refl, ap, ◌∙◌, le-ltb, lt-ltb, eq-eqb, ne_eqb}
+use Rattle.std.proofs.Common.{◌≡◌, ℕ, ◌^◌, ◌<◌, ◌≤◌, Bool, true, false, cond, List, length, is_some, Some, None, Option, option_map, unwrap_or, sym, refl, ap, ◌∙◌, le-ltb, lt-ltb, eq-eqb, ne_eqb}
 use Rattle.receiver.specs.declared.SingleMessage.{SingleMessage}
 use Rattle.receiver.specs.declared.StatusRequest.{StatusRequest}
 use Rattle.token.specs.Token.{fewer_than, number_after}
@@ -16,6 +16,7 @@ use Rattle.arq.specs.Encode.{by_kind}
 use Rattle.arq.specs.Decode.{decode_of}
 use Rattle.receiver.specs.declared.transaction.Transaction.{Transaction}
 use Rattle.receiver.specs.declared.ArqReassembler.{ArqReassembler}
+use Rattle.receiver.specs.declared.ArqStatus.{ArqStatus}
 use Rattle.receiver.specs.declared.Reception.{Reception}
 use Rattle.receiver.specs.declared.Reception.TheVariants as receptions
 use Rattle.receiver.specs.Receiver as R
@@ -34,10 +35,11 @@ use Rattle.procedure.specs.declared.StatusKind.{StatusKind}
 use Rattle.procedure.specs.declared.StatusKind.TheVariants.{Solicited, Unsolicited}
 use Rattle.procedure.specs.declared.StatusTransmission.{StatusTransmission}
 use Rattle.procedure.specs.declared.ReceiveEvent.TheVariants as receives
+use Rattle.procedure.specs.declared.TimerEvent.{TimerEvent}
 use Rattle.procedure.specs.declared.TimerEvent.TheVariants as timers
 use Rattle.procedure.specs.declared.SendEvent.{SendEvent}
 use Rattle.procedure.specs.declared.SendEvent.TheVariants as sends
-use Rattle.procedure.specs.Procedure.{Procedure, Sound, new_of, Out, with_timer, admits, says, reset_of, active_of, polled, receive_of, sends_status, follows, due_at, advance_of, after_sent, sent_at, status_sent_of}
+use Rattle.procedure.specs.Procedure.{Procedure, Sound, new_of, Out, with_timer, admits, says, reset_of, active_of, polled, receive_of, blank_status, follows, due_at, advance_of, after_sent, sent_at, status_sent_of}
 use Rattle.procedure.specs.Parts.{timed, ends_unpolled, accepted, by_answer, decoded}
 use Rattle.procedure.proofs.Parts.{receive_parts}
 
@@ -170,6 +172,11 @@ module _ (p : Procedure) (block : ℕ) (xs b : List ℕ) where
 
 -- ---- advance
 
+-- the echo and the map of what is held; 0 and an empty map where nothing is
+abbrev pub echo_and_map : Option Transaction → ArqStatus
+echo_and_map (Some t) = record { partial_echo = t.partial_echo; received_frames = t.received_frames }
+echo_and_map None = record { partial_echo = 0; received_frames = 0 }
+
 module _ (p : Procedure) (b : ℕ) where
   abbrev before : Timer
   before = p.inactivity
@@ -216,7 +223,26 @@ module _ (p : Procedure) (b : ℕ) where
       advance_none e = follow actions.None e
 
       -- by contention, with the echo and the map that are held, under the present token
-      pub advance_asks : (t : Transaction) → p.receiver.transaction ≡ Some t → I.advance_of before b ≡ answers actions.RequestUnsolicitedStatus u
+      pub advance_asks : I.advance_of before b ≡ answers actions.RequestUnsolicitedStatus u
+          → advance_of p b
+          ≡ tells (timers.SendStatus (record {
+            request = record { status = echo_and_map p.receiver.transaction; response_mode = Contention };
+            token = u.transaction;
+            kind = Unsolicited;
+            complete_at_poll = false;
+          }))
+          (made p.receiver u)
+      advance_asks e = follow actions.RequestUnsolicitedStatus e ∙ ap asking (told p.receiver.transaction)
+        where
+          asking : ArqStatus → After TimerEvent Procedure
+          asking s = tells (timers.SendStatus (record { request = record { status = s; response_mode = Contention }; token = u.transaction; kind = Unsolicited; complete_at_poll = false })) (made p.receiver u)
+
+          told : (o : Option Transaction) → unwrap_or (option_map status_of o) blank_status ≡ echo_and_map o
+          told (Some t) = refl
+          told None = refl
+
+      -- those of the transaction t, where t is held
+      pub advance_asks_held : (t : Transaction) → p.receiver.transaction ≡ Some t → I.advance_of before b ≡ answers actions.RequestUnsolicitedStatus u
           → advance_of p b
           ≡ tells (timers.SendStatus (record {
             request = record { status = record { partial_echo = t.partial_echo; received_frames = t.received_frames }; response_mode = Contention };
@@ -225,7 +251,10 @@ module _ (p : Procedure) (b : ℕ) where
             complete_at_poll = false;
           }))
           (made p.receiver u)
-      advance_asks t h e = follow actions.RequestUnsolicitedStatus e ∙ ap (λ (o : Option Transaction). says (sends_status (made p.receiver u) (option_map status_of o)) (made p.receiver u)) h
+      advance_asks_held t h e = advance_asks e ∙ ap asking h
+        where
+          asking : Option Transaction → After TimerEvent Procedure
+          asking o = tells (timers.SendStatus (record { request = record { status = echo_and_map o; response_mode = Contention }; token = u.transaction; kind = Unsolicited; complete_at_poll = false })) (made p.receiver u)
 
       -- and a transaction is held wherever the timer asks for one
       pub asks_held : Sound p → I.advance_of before b ≡ answers actions.RequestUnsolicitedStatus u → (t : Transaction) × (p.receiver.transaction ≡ Some t)

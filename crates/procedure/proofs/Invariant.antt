@@ -230,6 +230,10 @@ let_through_gives t b room {u} e =
     let q = passed (ltb room 255) 16 (ticked t b) n.1 in
     (ltb-false room 255 q.0, q.1, n.0)
 
+-- so does the procedure that it stands in
+pub sound_let_through : (p : Procedure) (block room : ℕ) {t : Timer} → let_through p.inactivity block room ≡ gives t → Sound p → Sound (with_timer p t)
+sound_let_through p block room e h = sound_ticked p block (let_through_gives p.inactivity block room e).1 h
+
 sound_goes : (p : Procedure) (block : ℕ) (xs b : List ℕ) (x : Outcome Timer) → let_through p.inactivity block (length b) ≡ x → Sound p → Sound (then_hears p xs b x).procedure
 sound_goes p block xs b (gives t) e h =
     let q = let_through_gives p.inactivity block (length b) e in

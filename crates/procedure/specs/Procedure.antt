@@ -1,6 +1,6 @@
 -- 01, module 5: ArqProcedure, in the order of the Rust. What each call answers, and the procedure and the buffer that it
 -- leaves. Assumes nothing.
-use Rattle.std.specs.Prelude.{◌≡◌, Bool, true, false, cond, ◌&&◌, List, ℕ, ltb, length, Option, Some, None, option_map, is_some, is_none, Result}
+use Rattle.std.specs.Prelude.{◌≡◌, Bool, true, false, cond, ◌&&◌, List, ℕ, ltb, length, Option, option_map, is_some, is_none, unwrap_or, Result}
 use Rattle.rach.specs.declared.MobileIdentity.{MobileIdentity}
 use Rattle.token.specs.Token.{fewer_than}
 use Rattle.spach.specs.Refusal.{Outcome, gives, refuses, refuse, and_then, left, After, onward}
@@ -130,10 +130,13 @@ unsolicited p s =
       complete_at_poll = false;
     }
 
--- it is sent; there is a status wherever one is asked for (Sound `armed`)
+-- of nothing held: echo 0 and an empty map
+abbrev pub blank_status : ArqStatus
+blank_status = record { partial_echo = 0; received_frames = 0 }
+
+-- it is sent; a transaction is held wherever one is asked for (Sound `armed`)
 abbrev pub sends_status : Procedure → Option ArqStatus → TimerEvent
-sends_status p (Some s) = timers.SendStatus (unsolicited p s)
-sends_status p None = timers.None
+sends_status p s = timers.SendStatus (unsolicited p (unwrap_or s blank_status))
 
 -- what the timer's action comes to
 abbrev pub follows : InactivityAction → Procedure → After TimerEvent Procedure
@@ -173,7 +176,7 @@ received r b = beside (left refusal_of r) b
 
 -- ---- the invariant
 
--- what every procedure is: the invariant of its type
+-- what every procedure is that the constructor and the calls make: each call but `with_timer` says so (`sound`), and none asks for it
 pub record Sound (p : Procedure) : Type 0 where
   pub receiver : Valid p.receiver
   pub inactivity : I.Sound p.inactivity

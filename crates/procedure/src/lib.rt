@@ -2,19 +2,18 @@
 // Ported from link/spach/arq/procedure.rs (chrismoos/136-bts 7c60b63bf4, Apache-2.0) and changed: see NOTICE.
 #![tactic(auto)]
 
-ghost use Rattle.std.specs.Prelude.{◌≡◌, ◌≤◌, length};
-ghost use Rattle.spach.specs.Refusal.{number_of, gives, and_then, by_number, left};
+ghost use Rattle.std.specs.Prelude.{◌≡◌, ◌≤◌, IfOk, length};
+ghost use Rattle.spach.specs.Refusal.{number_of, gives, and_then, by_number, left, onward};
 ghost use Rattle.arq.specs.Decode.{decode_of};
+ghost use Rattle.receiver.specs.Receiver.{status_answer};
 ghost use Rattle.inactivity.specs.Inactivity.{refusal_of};
-ghost use Rattle.procedure.specs.Procedure.{new_of, with_timer, ended, admits, says, reset_of, active_of, receive_of, received, polled, due_at, advance_of, sent_at, status_sent_of};
+ghost use Rattle.procedure.specs.Procedure.{Sound, new_of, with_timer, ended, admits, says, sends_status, reset_of, active_of, receive_of, received, polled, due_at, advance_of, sent_at, status_sent_of};
 ghost use Rattle.procedure.specs.Parts.{timed, ends_unpolled, let_through, decoded};
 
 use arq::{FrameKind, ResponseMode};
-use inactivity::{
-    ArqInactivity, InactivityAction, ProcedureError, StatusResult, TransactionToken, onward,
-};
+use inactivity::{ArqInactivity, InactivityAction, ProcedureError, StatusResult, TransactionToken};
 use rach::MobileIdentity;
-use receiver::{ArqReassembler, Reception, SingleMessage, StatusRequest};
+use receiver::{ArqReassembler, ArqStatus, Reception, SingleMessage, StatusRequest};
 use spach::SpachError;
 use std::marker::Model;
 
@@ -58,21 +57,19 @@ pub enum SendEvent {
     Failed,
 }
 
-// Contracts see a Procedure (specs/Procedure.antt), and every value is Sound.
+// Contracts see a Procedure (specs/Procedure.antt). The calls take any, and but for `with_timer` keep what is Sound so (`sound`).
 #[derive(Clone, Copy, Debug, PartialEq, Eq)]
 pub struct ArqProcedure {
-    receiver: ArqReassembler,
-    inactivity: ArqInactivity,
+    pub receiver: ArqReassembler,
+    pub inactivity: ArqInactivity,
 }
 
 impl Model for ArqProcedure {
-    ghost use Rattle.procedure.specs.Procedure.{Procedure, Sound};
+    ghost use Rattle.procedure.specs.Procedure.{Procedure};
 
     ghost Value = { Procedure };
 
     ghost view = { λ p. record { receiver = p.receiver; inactivity = p.inactivity } };
-
-    ghost invariant = { λ p. Sound (view p) };
 
     ghost inverse = { λ p. record { receiver = p.receiver; inactivity = p.inactivity } };
 }
@@ -121,7 +118,8 @@ impl ArqProcedure {
     // A procedure for an identity that can be encoded, under the first token; another is refused 2.
     #[tactic(auto, unfolding(crate::specs::Procedure::new_of))]
     pub fn try_new(identity: MobileIdentity, first: u64) -> Result<Self, SpachError>
-        ensures { by_number number_of result ≡ new_of identity first }
+        ensures exact { by_number number_of result ≡ new_of identity first }
+        ensures sound { IfOk result (λ p. Sound p) }
     {
         Ok(ArqProcedure {
             receiver: ArqReassembler::try_new(identity)?,
@@ -142,20 +140,32 @@ impl ArqProcedure {
     }
 
     // The Rust's reset, inner ones too. How many tokens are left is its callers' to ask.
-    pub fn end(self) -> Self
-        ensures { result ≡ ended self }
+    pub fn end(mut self) -> Self
+        ensures exact { result ≡ ended self }
+        ensures sound { Sound self → Sound result }
     {
-        ArqProcedure {
-            receiver: self.receiver.reset(),
-            inactivity: self.inactivity.renew(),
-        }
+        self.receiver = self.receiver.reset();
+        self.inactivity = self.inactivity.renew();
+        self
+    }
+
+    // The same procedure with another timer.
+    pub fn with_timer(mut self, inactivity: ArqInactivity) -> Self
+        ensures { result ≡ with_timer self inactivity }
+    {
+        self.inactivity = inactivity;
+        self
     }
 
     #[tactic(auto, unfolding(crate::specs::Procedure::reset_of))]
     pub fn reset(self) -> (Self, Result<(), SpachError>)
-        ensures { left number_of result ≡ reset_of self }
+        ensures exact { left number_of result ≡ reset_of self }
+        ensures sound { Sound self → Sound result.0 }
     {
-        onward(self, self.inactivity.enough().map(|_| (self.end(), ())))
+        match self.inactivity.enough() {
+            Ok(_) => (self.end(), Ok(())),
+            Err(error) => (self, Err(error)),
+        }
     }
 
     // Whether a transaction is held.
@@ -173,7 +183,8 @@ impl ArqProcedure {
         octets: &[u8],
         buffer: &mut [u8],
     ) -> (Self, Result<ReceiveEvent, ProcedureError>)
-        ensures { received result buffer.new ≡ receive_of self tdma_block octets.now buffer.old }
+        ensures exact { received result buffer.new ≡ receive_of self tdma_block octets.now buffer.old }
+        ensures sound { Sound self → Sound result.0 }
     {
         match let_through(self.inactivity, tdma_block, buffer.len()) {
             Ok(inactivity) => {
@@ -187,7 +198,8 @@ impl ArqProcedure {
     // At the moved clock, with room for 255 octets, as `push_frame` asks.
     fn hear(self, octets: &[u8], buffer: &mut [u8]) -> (Self, Result<ReceiveEvent, ProcedureError>)
         requires { 255 ≤ length buffer.old }
-        ensures { received result buffer.new ≡ decoded self buffer.old (decode_of octets.now) }
+        ensures exact { received result buffer.new ≡ decoded self buffer.old (decode_of octets.now) }
+        ensures sound { Sound self → Sound result.0 }
     {
         let frame = match arq::read::decode(octets) {
             Ok(frame) => frame,
@@ -220,7 +232,8 @@ impl ArqProcedure {
 
     // A complete message whose frame was not polled ends the transaction.
     fn rest(self, request: Option<StatusRequest>, complete: bool) -> Self
-        ensures { result ≡ ends_unpolled request complete self }
+        ensures exact { result ≡ ends_unpolled request complete self }
+        ensures sound { Sound self → Sound result }
     {
         if complete && request.is_none() {
             self.end()
@@ -229,84 +242,118 @@ impl ArqProcedure {
         }
     }
 
-    // 18, then 17; else the clock is moved.
-    fn admit(self, tdma_block: u64) -> Result<Self, ProcedureError>
-        ensures { by_number refusal_of result ≡ admits self tdma_block }
+    // What is due at a block.
+    pub fn advance(mut self, tdma_block: u64) -> (Self, Result<TimerEvent, ProcedureError>)
+        ensures exact { left refusal_of result ≡ advance_of self tdma_block }
+        ensures sound { Sound self → Sound result.0 }
     {
-        Ok(ArqProcedure {
-            inactivity: self.inactivity.admit(tdma_block)?,
-            ..self
-        })
+        let event = self.advanced(tdma_block);
+        (self, event)
     }
 
-    // What is due at a block.
+    // 18, then 17; else the clock is moved. (In place: only the timer goes through a Result.)
     #[tactic(auto, unfolding(crate::specs::Procedure::advance_of))]
-    pub fn advance(self, tdma_block: u64) -> (Self, Result<TimerEvent, ProcedureError>)
-        ensures { left refusal_of result ≡ advance_of self tdma_block }
+    fn advanced(&mut self, tdma_block: u64) -> Result<TimerEvent, ProcedureError>
+        ensures exact { left refusal_of (self.new, result) ≡ advance_of self.old tdma_block }
+        ensures sound { Sound self.old → Sound self.new }
     {
-        onward(self, self.admit(tdma_block).map(Self::due))
+        self.inactivity = self.inactivity.admit(tdma_block)?;
+        Ok(self.due())
     }
 
     // What is due at the clock's block; a complete message waits for its status alone.
-    fn due(self) -> (Self, TimerEvent)
-        ensures { says result.1 result.0 ≡ due_at self }
+    fn due(&mut self) -> TimerEvent
+        ensures exact { says result self.new ≡ due_at self.old }
+        ensures sound { Sound self.old → Sound self.new }
     {
         if self.receiver.complete() {
-            return (self, TimerEvent::None);
+            return TimerEvent::None;
         }
         let (inactivity, action) = self.inactivity.due();
-        let next = ArqProcedure { inactivity, ..self };
+        self.inactivity = inactivity;
         match action {
-            InactivityAction::None => (next, TimerEvent::None),
-            InactivityAction::Terminate => (next.end(), TimerEvent::Terminated),
-            InactivityAction::RequestUnsolicitedStatus => {
-                // The timer is armed only for an active transaction. IS-136.1-A 5.3.1.2: unsolicited access uses contention.
-                let status = self.receiver.status().unwrap();
-                let transmission = StatusTransmission {
-                    request: StatusRequest {
-                        status,
-                        response_mode: ResponseMode::Contention,
-                    },
-                    token: inactivity.token(),
-                    kind: StatusKind::Unsolicited,
-                    complete_at_poll: false,
-                };
-                (next, TimerEvent::SendStatus(transmission))
+            InactivityAction::None => TimerEvent::None,
+            InactivityAction::Terminate => {
+                *self = self.end();
+                TimerEvent::Terminated
             }
+            InactivityAction::RequestUnsolicitedStatus => {
+                TimerEvent::SendStatus(self.unsolicited())
+            }
+        }
+    }
+
+    // IS-136.1-A 5.3.1.2: unsolicited access uses contention. Echo and map that are held; the timer is armed only for an active
+    // transaction (Sound `armed`), and of nothing held they are 0 and empty.
+    fn unsolicited(&self) -> StatusTransmission
+        ensures { TimerEvent.SendStatus result ≡ sends_status self.now (status_answer self.now.receiver) }
+    {
+        let status = self.receiver.status().unwrap_or(ArqStatus {
+            partial_echo: 0,
+            received_frames: 0,
+        });
+        StatusTransmission {
+            request: StatusRequest {
+                status,
+                response_mode: ResponseMode::Contention,
+            },
+            token: self.inactivity.token(),
+            kind: StatusKind::Unsolicited,
+            complete_at_poll: false,
         }
     }
 
     // The result of sending a status.
     #[tactic(auto, unfolding(crate::specs::Procedure::status_sent_of))]
     pub fn status_sent(
-        self,
+        mut self,
         tdma_block: u64,
         transmission: StatusTransmission,
         res: StatusResult,
     ) -> (Self, Result<SendEvent, ProcedureError>)
-        ensures { left refusal_of result ≡ status_sent_of self tdma_block transmission res }
+        ensures exact { left refusal_of result ≡ status_sent_of self tdma_block transmission res }
+        ensures sound { Sound self → Sound result.0 }
     {
-        if !self.inactivity.owns(transmission.token) {
-            return (self, Ok(SendEvent::Ignored));
-        }
-        let clocked = self.admit(tdma_block);
-        onward(self, clocked.map(|p| p.report(transmission, res)))
+        let event = if self.inactivity.owns(transmission.token) {
+            self.sent(tdma_block, transmission, res)
+        } else {
+            Ok(SendEvent::Ignored)
+        };
+        (self, event)
+    }
+
+    // With the timer's token: 18, then 17; else the clock is moved. (In place, as `advanced`.)
+    fn sent(
+        &mut self,
+        tdma_block: u64,
+        transmission: StatusTransmission,
+        res: StatusResult,
+    ) -> Result<SendEvent, ProcedureError>
+        ensures exact { left refusal_of (self.new, result) ≡ onward self.old (admits self.old tdma_block) (sent_at transmission res) }
+        ensures sound { Sound self.old → Sound self.new }
+    {
+        self.inactivity = self.inactivity.admit(tdma_block)?;
+        Ok(self.report(transmission, res))
     }
 
     // At the moved clock.
-    fn report(self, transmission: StatusTransmission, res: StatusResult) -> (Self, SendEvent)
-        ensures { says result.1 result.0 ≡ sent_at transmission res self }
+    fn report(&mut self, transmission: StatusTransmission, res: StatusResult) -> SendEvent
+        ensures exact { says result self.new ≡ sent_at transmission res self.old }
+        ensures sound { Sound self.old → Sound self.new }
     {
         if res == StatusResult::Failed {
-            return (self.end(), SendEvent::Failed);
+            *self = self.end();
+            return SendEvent::Failed;
         }
         if transmission.complete_at_poll {
-            return (self.end(), SendEvent::Complete);
+            *self = self.end();
+            return SendEvent::Complete;
         }
         let (inactivity, _) = match transmission.kind {
             StatusKind::Solicited => self.inactivity.solicited_at(res),
             StatusKind::Unsolicited => self.inactivity.unsolicited_at(res),
         };
-        (ArqProcedure { inactivity, ..self }, SendEvent::Pending)
+        self.inactivity = inactivity;
+        SendEvent::Pending
     }
 }

@@ -79,14 +79,14 @@ impl ArqReassembler {
     pub fn status(self) -> Option<ArqStatus>
         ensures { result ≡ status_answer self }
     {
-        self.transaction.map(|t| t.status())
+        self.transaction.as_ref().map(|t| t.status())
     }
 
     // Whether the transaction held has delivered its message.
     pub fn complete(self) -> bool
         ensures { result ≡ complete_of self }
     {
-        self.transaction.is_some_and(|t| t.delivered)
+        self.transaction.as_ref().is_some_and(|t| t.delivered)
     }
 
     // The octets of a frame, if they are one. A complete message goes to the front of the buffer.

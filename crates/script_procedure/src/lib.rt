@@ -3,7 +3,9 @@
 
 pub mod values;
 
-ghost use Rattle.std.specs.Prelude.{◌≡◌, length, None};
+ghost use Rattle.std.specs.Prelude.{◌≡◌, ◌≤◌, length, drop, None};
+ghost use Rattle.script_procedure.specs.Table.{row_of};
+ghost use Rattle.script_procedure.specs.Held.{Holds};
 
 use procedure::ArqProcedure;
 use script_inactivity::{put_timer, status_result};
@@ -79,6 +81,7 @@ impl Procedure {
     // A refusal leaves none.
     fn make(&mut self, mut operands: Operands<'_>) -> Answer<0>
         requires { length operands ≡ 17 }
+        ensures { Holds self.old.held → Holds self.new.held }
     {
         let identity = operands.identity()?;
         self.held = None;
@@ -86,7 +89,9 @@ impl Procedure {
         Ok(Values::new())
     }
 
-    fn reset(&mut self) -> Answer<0> {
+    fn reset(&mut self) -> Answer<0>
+        ensures { Holds self.old.held → Holds self.new.held }
+    {
         let held = self.held.ok_or(NO_CALL)?;
         keep(&mut self.held, held.reset())?;
         Ok(Values::new())
@@ -99,6 +104,7 @@ impl Procedure {
     // The whole buffer after the event.
     fn receive(&mut self, mut operands: Operands<'_>) -> Answer<335>
         requires { length operands ≡ 44 }
+        ensures { Holds self.old.held → Holds self.new.held }
     {
         let held = self.held.ok_or(NO_CALL)?;
         let block = operands.eight();
@@ -117,6 +123,7 @@ impl Procedure {
 
     fn advance(&mut self, mut operands: Operands<'_>) -> Answer<18>
         requires { length operands ≡ 8 }
+        ensures { Holds self.old.held → Holds self.new.held }
     {
         let held = self.held.ok_or(NO_CALL)?;
         let event = keep(&mut self.held, held.advance(operands.eight()))?;
@@ -126,6 +133,7 @@ impl Procedure {
     // Events are in the protocol's order.
     fn sent(&mut self, mut operands: Operands<'_>) -> Answer<1>
         requires { length operands ≡ 25 }
+        ensures { Holds self.old.held → Holds self.new.held }
     {
         let held = self.held.ok_or(NO_CALL)?;
         let block = operands.eight();
@@ -150,7 +158,14 @@ impl Machine for Procedure {
     type Op = Op;
 
     // A match: each operation has operands and an answer of its own.
-    fn run(&mut self, op: Op, operands: Operands<'_>, answers: &mut [u8]) -> usize {
+    fn run(&mut self, op: Op, operands: Operands<'_>, answers: &mut [u8]) -> usize
+        requires operands { length operands ≡ (row_of op).1 }
+        requires room { (row_of op).2 ≤ length answers.old }
+        ensures some { 1 ≤ result }
+        ensures most { result ≤ (row_of op).2 }
+        ensures rest { drop result answers.new ≡ drop result answers.old }
+        ensures sound { Holds self.old.held → Holds self.new.held }
+    {
         match op {
             Op::New => put(answers, self.make(operands)),
             Op::Reset => put(answers, self.reset()),

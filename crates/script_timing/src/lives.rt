@@ -1,5 +1,8 @@
 // Loops of a receiver's, a procedure's and a timer's calls. Each makes its own, for the identity Tmsi20(1); the number
 // of the round is the block.
+ghost use Rattle.inactivity.specs.Inactivity.{Sound as SoundTimer};
+ghost use Rattle.procedure.specs.Procedure.{Sound};
+
 use crate::{number, sum};
 use inactivity::{ArqInactivity, StatusResult};
 use procedure::{ArqProcedure, ReceiveEvent, TimerEvent};
@@ -43,7 +46,9 @@ pub struct Life {
 }
 
 impl Life {
-    pub fn receive(&mut self, frame: &[u8]) -> u64 {
+    pub fn receive(&mut self, frame: &[u8]) -> u64
+        ensures { Sound self.old.procedure → Sound self.new.procedure }
+    {
         let (after, event) = self.procedure.receive(self.block, frame, &mut self.buffer);
         self.procedure = after;
         match event {
@@ -56,7 +61,9 @@ impl Life {
     }
 
     // A frame, and the status that it asks for is sent.
-    pub fn report(&mut self, frame: &[u8]) -> u64 {
+    pub fn report(&mut self, frame: &[u8]) -> u64
+        ensures { Sound self.old.procedure → Sound self.new.procedure }
+    {
         let (heard, event) = self.procedure.receive(self.block, frame, &mut self.buffer);
         self.procedure = heard;
         let Ok(
@@ -77,7 +84,9 @@ impl Life {
     }
 
     // What is due; the frame only opens a transaction.
-    pub fn advance(&mut self, frame: &[u8]) -> u64 {
+    pub fn advance(&mut self, frame: &[u8]) -> u64
+        ensures { Sound self.old.procedure → Sound self.new.procedure }
+    {
         if !self.procedure.active() {
             return self.receive(frame);
         }
@@ -114,7 +123,9 @@ where
     sum
 }
 
-pub fn received_frame(timer: &mut ArqInactivity, block: u64) -> u64 {
+pub fn received_frame(timer: &mut ArqInactivity, block: u64) -> u64
+    ensures { SoundTimer timer.old → SoundTimer timer.new }
+{
     let (after, moved) = timer.received_frame(block);
     *timer = after;
     match moved {
@@ -123,7 +134,9 @@ pub fn received_frame(timer: &mut ArqInactivity, block: u64) -> u64 {
     }
 }
 
-pub fn advance(timer: &mut ArqInactivity, block: u64) -> u64 {
+pub fn advance(timer: &mut ArqInactivity, block: u64) -> u64
+    ensures { SoundTimer timer.old → SoundTimer timer.new }
+{
     let (after, action) = timer.advance(block);
     *timer = after;
     match action {

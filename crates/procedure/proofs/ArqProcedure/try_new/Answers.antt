@@ -3,5 +3,5 @@ use Rattle.std.proofs.Common.{sym}
 use Rattle.procedure.proofs.Invariant.{sound_made}
 use Rattle.procedure.proofs.ArqProcedure.try_new.Goals as goal
 
-pub invariant_of-result : goal.invariant_of-result
-invariant_of-result c = rw c.new.ensures (sound_made c.args.identity c.args.first (sym c.in_ok-try_new.ensures))
+pub returns-clause-sound : goal.returns-clause-sound
+returns-clause-sound c = rw c.new.ensures.exact (sound_made c.args.identity c.args.first (sym c.in_ok-try_new.ensures))
