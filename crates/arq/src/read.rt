@@ -1,8 +1,9 @@
 // Decode, in document 01's order: header A, kind, address, the rest, the data.
 // Ported from link/spach/arq.rs (chrismoos/136-bts 7c60b63bf4, Apache-2.0) and changed: see NOTICE.
-ghost use Rattle.std.specs.Prelude.{◌≡◌, not, ◌+◌, ◌≤◌, eqb};
-ghost use Rattle.field.specs.Bits.{bits_of};
+ghost use Rattle.std.specs.Prelude.{◌≡◌, not, ◌+◌, ◌≤◌, eqb, take, drop};
+ghost use Rattle.field.specs.Bits.{bits_of, octets as octets_of};
 ghost use Rattle.field.specs.Spans.{Run};
+ghost use Rattle.field.specs.Layout.{up_to};
 ghost use Rattle.spach.specs.Refusal.{number_of, by_number};
 ghost use Rattle.arq.specs.Frame.{room};
 ghost use Rattle.arq.specs.Decode.{mode_at, decode_of};
@@ -63,6 +64,19 @@ fn decode_begin(octets: &[u8; 14], a: HeaderA, address: Address) -> Result<ArqFr
     Ok(frame::a_begin(header, address.identity, n, room as u8, data))
 }
 
+// A Continue's data, as eight octets and two. The compiler holds these as two numbers; ten octets, which `copy_bits` writes
+// eight at a time, it holds in memory, where the second write waits for the first.
+fn continue_data(octets: &[u8; 14]) -> [u8; 10]
+    ensures { result ≡ octets_of 10 (up_to 80 (take 79 (drop 30 (bits_of octets.now)))) }
+{
+    let front: [u8; 8] = frame::data_octets(octets, 30, 64);
+    let rest: [u8; 2] = frame::data_octets(octets, 94, CONTINUE_DATA_BITS - 64);
+    let mut data = [0u8; 10];
+    data[..8].copy_from_slice(&front);
+    data[8..].copy_from_slice(&rest);
+    data
+}
+
 // A Continue after its kind. The bit after its identity type is skipped.
 fn decode_continue(octets: &[u8; 14], a: HeaderA) -> Result<ArqFrame, SpachError>
     ensures { by_number number_of result ≡ decode_continue a (bits_of octets.now) }
@@ -77,8 +91,7 @@ fn decode_continue(octets: &[u8; 14], a: HeaderA) -> Result<ArqFrame, SpachError
     let identity_type = field::read_field(octets, 10, 2);
     let response = field::read_field(octets, 13, 1);
     let header = read_header(octets, a, response != 0, 14);
-    let data = frame::data_octets(octets, 30, CONTINUE_DATA_BITS);
-    Ok(frame::a_continue(header, identity_type as u8, k as u8, data))
+    Ok(frame::a_continue(header, identity_type as u8, k as u8, continue_data(octets)))
 }
 
 // By kind: Begin 5, Continue 6.

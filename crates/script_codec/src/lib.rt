@@ -54,24 +54,27 @@ impl Operation for Op {
     }
 }
 
-// Kind and mode are in the protocol's order.
+// Kind and mode are in the protocol's order. (One array: octets that are pushed one by one are stored so, and a copy of them
+// all waits for each.)
 fn frame_values(frame: ArqFrame) -> Values<36> {
     let header = frame.header;
-    let mut values = Values::new();
-    values.push(frame.kind as u8);
-    values.push(header.channel.usage());
-    values.push(script_leaf::headers::flags_octet(header.flags));
-    values.push(header.partial_echo);
-    values.push(u8::from(header.polling));
-    values.push(header.response_mode as u8);
-    values.identity(frame.identity);
-    values.push(frame.message_octets);
-    values.push(frame.begin_bits);
-    values.extend(&frame.begin_data);
-    values.push(frame.identity_type);
-    values.push(frame.frame_number);
-    values.extend(&frame.continue_data);
-    values
+    let mut octets = [0u8; 36];
+    octets[0] = frame.kind as u8;
+    octets[1] = header.channel.usage();
+    octets[2] = script_leaf::headers::flags_octet(header.flags);
+    octets[3] = header.partial_echo;
+    octets[4] = u8::from(header.polling);
+    octets[5] = header.response_mode as u8;
+    let parts = frame.identity.parts();
+    octets[6] = parts.identity_type;
+    octets[7..15].copy_from_slice(&parts.value.to_be_bytes());
+    octets[15] = frame.message_octets;
+    octets[16] = frame.begin_bits;
+    octets[17..24].copy_from_slice(&frame.begin_data);
+    octets[24] = frame.identity_type;
+    octets[25] = frame.frame_number;
+    octets[26..].copy_from_slice(&frame.continue_data);
+    Values::from(octets)
 }
 
 fn encode(mut operands: Operands<'_>) -> Answer<14>
