@@ -15,7 +15,7 @@ use Rattle.transfer.specs.Echo.{free_echo, held_until, hold}
 use Rattle.transfer.specs.Transfer.{went_out, begun}
 use Rattle.transfer.specs.Advance.{kept, restart, landed, walk, walked, advance_of}
 use Rattle.transfer.specs.Cancel.{cancel_all_of}
-use Rattle.transfer.specs.Enqueue.{Grant, addressed, grant_of, lowest_n, parcel_of, accepts}
+use Rattle.transfer.specs.Enqueue.{Grant, addressed, grant_of, replaced, lowest_n, parcel_of, accepts}
 use Rattle.transfer.specs.Prepare.{repeated, only_echo, choose}
 use Rattle.transfer.specs.Refresh.{refreshed, queue_waiting, serve_oldest}
 use Rattle.transfer.specs.Submitted.{in_flight_lem, confirm_frame, submitted_at}
@@ -78,16 +78,26 @@ submitted_at-kept v m t h =
     let x = get_or v.transfers i blank_transfer in
     move_kept (back_move {octets = []} {first = 0} u i (in_flight_lem t.frame v.clock.last_block x) lt (in_flight_keeps u x t.frame refl q)) (move_kept {octets = []} {first = 0} (drops None (inl refl)) h))
 
+-- what an accepted request leaves, by the sender without the replaced transfer
+abbrev accepted : View → Request → List ℕ → Grant → View → View
+accepted v r message g w = kept (token_taken w) (begun (parcel_of r message g.frames (lowest_n w.transfers) v.next_token) g.echo v.next_token)
+
+-- `accepts` leaves that. A fact of its own, which under another `accepts` is refused at once: `Sound` of the one against `Sound` of the
+-- other would be compared without end
+accepts_sender : (v : View) (m : Lent) (r : Request) (message : List ℕ) (g : Grant)
+    → (accepts v m r message g).sender ≡ accepted v r message g (replaced (with_echoes v (hold v.echoes g.echo (held_until v.limits r.deadline_ms))) r.identity)
+unfolding accepts
+accepts_sender v m r message g = refl
+
 -- a request that passes is accepted
 pub accepts-kept : (v : View) (m : Lent) (r : Request) (message : List ℕ) (g : Grant) → grant_of v r message ≡ gives g → v.next_token < stop → Sound v → Sound (accepts v m r message g).sender
-unfolding accepts
 accepts-kept v m r message g e room h =
     let p = grant_passes v r message e in
     let u = with_echoes v (hold v.echoes g.echo (held_until v.limits r.deadline_ms)) in
-    seek_cases {X = View} (λ x. Sound (kept (token_taken x) (begun (parcel_of r message g.frames (lowest_n x.transfers) v.next_token) g.echo v.next_token)))
-    (addressed r.identity) v.transfers u (cancel_at u)
+    subst Sound (sym (accepts_sender v m r message g))
+    (seek_cases {X = View} (λ x. Sound (accepted v r message g x)) (addressed r.identity) v.transfers u (cancel_at u)
     (λ n. welcomed_kept v r message g (welcomes v r message g p room h n) h)
-    (λ i lt z. welcomed_kept (cancel_at v i (get_or v.transfers i blank_transfer)) r message g (welcomes_instead v r message g p room h i lt z) (cancel_kept v i lt h))
+    (λ i lt z. welcomed_kept (cancel_at v i (get_or v.transfers i blank_transfer)) r message g (welcomes_instead v r message g p room h i lt z) (cancel_kept v i lt h)))
 
 -- ---- what `advance` says
 
