@@ -19,7 +19,7 @@ pub record Answered (post : Promise) (script text : List ℕ) : Type 0 where
   pub said : text ≡ text_of (take count after.now)
 
 -- of what was read: a script of at most 65,536 octets was run and its answers printed, else that it is too long. How much that is
--- `reading::fill` says, to the end or to a failure; a failed read is not told here, and the front that came is run.
+-- `reading::filled` says, to the end or to a failure; a failed read is not told here, and the front that came is run.
 pub record Replays (post : Promise) (input rest before after : Option (List ℕ)) : Type 0 where
   pub script : List ℕ
   pub text : List ℕ

@@ -1,7 +1,7 @@
 // Octets in lower-case hex, 32 to a line.
 #![tactic(auto)]
 
-ghost use Rattle.std.specs.Prelude.{◌≡◌, ◌++◌, ◌+◌, ◌*◌, ◌≤◌, length, OnOk};
+ghost use Rattle.std.specs.Prelude.{◌≡◌, ◌++◌, ◌+◌, ◌*◌, ◌≤◌, length, take, OnOk};
 ghost use Rattle.arrayvec.specs.ArrayVec.{array_vec_len};
 ghost use Rattle.hex.specs.Hex.{encode_lower};
 ghost use Rattle.hex_lines.specs.Hex.{text_of};
@@ -35,6 +35,24 @@ pub fn put_lines<const N: usize>(text: &mut ArrayVec<u8, N>, octets: &[u8])
     }
 }
 
+// The octets' text, at the front of a lent text; how long it is.
+pub fn hex(octets: &[u8], text: &mut [u8]) -> usize
+    requires { 3 * length octets.now ≤ length text.old }
+    ensures most { result ≤ 3 * length octets.now }
+    ensures text { take result text.new ≡ text_of octets.now }
+{
+    let mut to = 0;
+    for part in octets.chunks(32) {
+        let mut line = ArrayVec::<u8, 65>::new();
+        put_digits(&mut line, part);
+        line.push(b'\n');
+        let end = to + line.len();
+        text[to..end].copy_from_slice(&line);
+        to = end;
+    }
+    to
+}
+
 // Runs the script that the source gives, and prints the answers in hex. `run` is lent the script and room for its
 // answers, and says how many it put there.
 pub fn replay<R: Read, W: Write, F: FnOnce(&[u8], &mut [u8]) -> usize>(
@@ -47,7 +65,7 @@ pub fn replay<R: Read, W: Write, F: FnOnce(&[u8], &mut [u8]) -> usize>(
     ensures { OnOk result (Replays (F.post run) (R.remaining source.old) (R.remaining source.new) (W.contents output.old) (W.contents output.new)) }
 {
     let mut room = [0u8; 65537];
-    let (script, _) = reading::fill(source, &mut room);
+    let (script, _) = reading::filled(source, &mut room);
     if script.len() > 65536 {
         return output.write_all(b"too long\n");
     }

@@ -1,5 +1,6 @@
 pub mod Digits
 pub mod Opened
+pub mod Texts
 pub mod Sessions
 pub mod Shown
 pub mod Exactly

@@ -12,6 +12,8 @@ ghost use Rattle.receiver.specs.Receiver.{new_of, push_of, status_answer};
 ghost use Rattle.receiver.specs.Demand3.{runs};
 ghost use Rattle.arrayvec.specs.ArrayVec.{array_vec_len};
 ghost use Rattle.field.specs.Bits.{bits_of, field};
+ghost use Rattle.io.specs.Counts.{IsPrefixLen};
+ghost use Rattle.listing.specs.Text.{Wrote};
 ghost use Rattle.listing.specs.Line.{line_of};
 ghost use Rattle.listing.specs.Session.{open_of, Ready, push_with, frames_of, out_of, step_of, after_of, lines_of, new_session};
 
@@ -95,4 +97,37 @@ impl Session {
         }
         self
     }
+}
+
+// The same into a lent text, the line from `to` on; the place after it.
+pub fn show_frame(session: Session, octets: &[u8], text: &mut [u8], to: usize) -> (Session, usize)
+    requires ready { Ready session 1 }
+    requires room { to + 600 ≤ length text.old }
+    ensures session { result.0 ≡ step_of session (push_with octets.now) }
+    ensures wrote { Wrote text.old text.new to result.1 (line_of (session.frames + 1) (out_of session (push_with octets.now))) }
+    ensures most { result.1 ≤ to + 600 }
+{
+    let mut line = ArrayVec::<u8, 600>::new();
+    let after = session.show_frame(octets, &mut line);
+    let end = to + line.len();
+    text[to..end].copy_from_slice(&line);
+    (after, end)
+}
+
+// The same of frames in turn, their lines from the front of a lent text on.
+pub fn show_frames(mut session: Session, octets: &[u8], text: &mut [u8]) -> (Session, usize)
+    requires ready { Ready session (length octets.now / 14) }
+    requires room { 600 * (length octets.now / 14) ≤ length text.old }
+    ensures session { result.0 ≡ after_of session (frames_of octets.now) }
+    ensures state { result.0.receiver ≡ runs new_of push_of status_answer session.receiver (frames_of octets.now) }
+    ensures wrote { Wrote text.old text.new 0 result.1 (lines_of session (frames_of octets.now)) }
+    ensures inside { IsPrefixLen result.1 text.new }
+{
+    let mut to = 0;
+    for next in octets.chunks_exact(14) {
+        let (after, end) = show_frame(session, next, text, to);
+        session = after;
+        to = end;
+    }
+    (session, to)
 }

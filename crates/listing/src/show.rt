@@ -25,7 +25,7 @@ fn read_some<'a, R: Read>(
     ensures end { OnOk result.1 (length result.0.now < length room.old → length result.0.now < left → IsAtEnd (R.remaining input.new)) }
 {
     let most = left.min(room.len() as u64) as usize;
-    reading::fill(input, &mut room[..most])
+    reading::filled(input, &mut room[..most])
 }
 
 // Where reading failed: that the listing does not go on says so itself.

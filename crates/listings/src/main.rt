@@ -6,7 +6,7 @@ use std::io::{Read, Write};
 // Lists the next input. Answers whether there was one.
 fn list_next<R: Read, W: Write>(input: &mut R, output: &mut W) -> bool {
     let mut room = [0u8; 2];
-    let (&[high, low], _) = reading::fill(input, &mut room) else {
+    let (&[high, low], _) = reading::filled(input, &mut room) else {
         return false;
     };
     let length = u16::from_be_bytes([high, low]);
