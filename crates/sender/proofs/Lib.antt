@@ -5,6 +5,7 @@ pub mod Found
 pub mod Granted
 pub mod Handed
 pub mod Heard
+pub mod Laid
 pub mod Oldest
 pub mod Readings
 pub mod Turns

@@ -19,6 +19,18 @@ view_of t = record {
   next_token = t.next_token;
 }
 
+-- so the fields can be told again
+abbrev pub table_of : View → Table
+table_of v = record {
+  limits = v.limits;
+  clock = v.clock;
+  transfers = record { items = v.transfers };
+  events = record { items = v.events };
+  echoes = v.echoes;
+  selected = v.selected;
+  next_token = v.next_token;
+}
+
 -- what a call is lent
 abbrev pub lent : (octets words : List ℕ) → Lent
 lent octets words = record { octets = octets; words = words }

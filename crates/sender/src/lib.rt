@@ -7,6 +7,7 @@
 mod cancel;
 mod clock;
 mod enqueue;
+mod list;
 mod prepare;
 mod refresh;
 mod status;
@@ -29,6 +30,7 @@ ghost use Rattle.transfer.specs.Queries.{can_enqueue_of, identity_for_echo_of, r
 ghost use Rattle.sender.specs.View.{lent, wrote};
 
 use clock::is_short;
+pub use list::{Blank, FixedList};
 use rach::MobileIdentity;
 use receiver::ArqStatus;
 use spach::SpachError;
@@ -40,7 +42,7 @@ use transfer::queue::full;
 use transfer::{Error, Event, FrameToken, Limits, PreparedFrame, Request, TransferToken};
 
 // A sender that the constructor and the calls made. Contracts see it as a `View`.
-#[derive(Clone, Drop)]
+#[derive(Clone, Copy)]
 pub struct Sender {
     table: Table,
 }
@@ -51,11 +53,13 @@ impl Model for Sender {
 
     ghost Value = { View };
 
-    ghost use Rattle.sender.specs.View.{view_of};
+    ghost use Rattle.sender.specs.View.{view_of, table_of};
 
     ghost view = { λ s. view_of s.table };
 
     ghost invariant = { λ s. Sound (view_of s.table) };
+
+    ghost inverse = { λ v. record { table = table_of v } };
 }
 
 impl Sender {
@@ -88,9 +92,7 @@ impl Sender {
     pub fn copy(&self) -> Sender
         ensures { result ≡ self.now }
     {
-        Sender {
-            table: self.table.copy(),
-        }
+        *self
     }
 
     // What it is made of, to be shown.

@@ -41,8 +41,9 @@ impl Table {
         ensures { view_of self.new ≡ definition.queue_waiting (view_of self.old) }
     {
         let block = self.clock.last_block;
-        for x in self.transfers.iter_mut() {
-            *x = refreshed(block, *x);
+        for i in 0..self.transfers.len() {
+            let x = self.transfers[i];
+            self.put(i, refreshed(block, x));
         }
     }
 

@@ -7,7 +7,7 @@ ghost use Rattle.transfer.specs.Lists.{any, remove_at};
 ghost use Rattle.transfer.specs.Prepare.{is_ready};
 ghost use Rattle.transfer.specs.State.{of_echo, of_generation, clear_selected, put_at, with_event, with_transfers};
 
-use arrayvec::ArrayVec;
+use super::list::FixedList;
 use rach::MobileIdentity;
 use transfer::constants::ECHO_VALUES;
 use transfer::echo::Echoes;
@@ -18,14 +18,14 @@ const MOST_EVENTS: usize = 256;
 
 // Between two steps of a call nothing need hold of it, so it has no invariant: a step asks for what it needs, room for an event,
 // tokens left or octets lent, and what `admit` found out, or a sender's invariant, gives it.
-#[derive(Clone, Drop)]
+#[derive(Clone, Copy)]
 pub struct Table {
     pub limits: Limits,
     pub clock: Clock,
     // Live transfers, overdue ones too, in the order in which they are served.
-    pub transfers: ArrayVec<Transfer, ECHO_VALUES>,
+    pub transfers: FixedList<Transfer, ECHO_VALUES>,
     // Events that wait to be taken, oldest first.
-    pub events: ArrayVec<Event, MOST_EVENTS>,
+    pub events: FixedList<Event, MOST_EVENTS>,
     pub echoes: Echoes,
     // The frame that was prepared last, until it is submitted or dropped.
     pub selected: Option<PreparedFrame>,
@@ -46,29 +46,11 @@ impl Table {
                 last_block: 0,
                 last_ms: 0,
             },
-            transfers: ArrayVec::new(),
-            events: ArrayVec::new(),
+            transfers: FixedList::new(),
+            events: FixedList::new(),
             echoes: Echoes::new(),
             selected: None,
             next_token: first,
-        }
-    }
-
-    pub(crate) fn copy(&self) -> Table
-        ensures { view_of result ≡ view_of self.now }
-    {
-        let mut transfers = ArrayVec::new();
-        transfers.try_extend_from_slice(&self.transfers).unwrap();
-        let mut events = ArrayVec::new();
-        events.try_extend_from_slice(&self.events).unwrap();
-        Table {
-            limits: self.limits,
-            clock: self.clock,
-            transfers,
-            events,
-            echoes: self.echoes,
-            selected: self.selected,
-            next_token: self.next_token,
         }
     }
 
@@ -148,7 +130,7 @@ impl Table {
         requires { place < length self.old.transfers.items }
         ensures { view_of self.new ≡ put_at (view_of self.old) place x }
     {
-        self.transfers[place] = x;
+        self.transfers.set(place, x);
     }
 
     // The transfer at a place is taken out, and this one put at the front.
