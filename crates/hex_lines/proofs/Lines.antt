@@ -1,9 +1,15 @@
--- A law on lines in hex, of which a loop puts one at a time. Assumes nothing.
-use Rattle.std.proofs.Common.{◌≡◌, ℕ, suc, ◌+◌, ◌/◌, ◌<◌, List, [], ◌∷◌, ◌++◌, length, take, drop, min, arith, ap, append_assoc, append-nil, length-append, inl, inr, take_at, drop_at, take_all, drop_of_length-le}
+-- Laws on lines that a loop puts one at a time, in hex or not. Assumes nothing.
+use Rattle.std.proofs.Common.{◌≡◌, ℕ, suc, ◌+◌, ◌/◌, ◌<◌, ◌≤◌, ◌-◌, List, [], ◌∷◌, ◌++◌, length, take, drop, min, arith, ap, append_assoc, append-nil, length-append, inl, inr, take_at, drop_at, take_all, drop_of_length-le, drop-drop}
 use Rattle.std.proofs.lemmas.Bool.{cases_lt}
 use Rattle.std.proofs.lemmas.List.{nil_from_length}
 use Rattle.hex.specs.Hex.{encode_lower}
 use Rattle.hex_lines.specs.Hex.{lines_of, text_of}
+
+-- what two lists share from i on they share from any later place on
+pub drop_later : (xs ys : List ℕ) (i j : ℕ) → i ≤ j → drop i xs ≡ drop i ys → drop j xs ≡ drop j ys
+drop_later xs ys i j h e =
+    let later : i + (j - i) ≡ j = omega arith in
+    rw (drop-drop (j - i) i xs, drop-drop (j - i) i ys, later) at (ap (drop (j - i)) e)
 
 -- the first 32 octets, and the others; none if those are fewer
 split : (line rest : List ℕ) → length line ≡ min 32 (length (line ++ rest)) → (take 32 (line ++ rest) ≡ line) × (drop 32 (line ++ rest) ≡ rest)

@@ -1,7 +1,7 @@
 // Octets in lower-case hex, 32 to a line.
 #![tactic(auto)]
 
-ghost use Rattle.std.specs.Prelude.{◌≡◌, ◌++◌, ◌+◌, ◌*◌, ◌≤◌, length, take, OnOk};
+ghost use Rattle.std.specs.Prelude.{◌≡◌, ◌++◌, ◌+◌, ◌*◌, ◌≤◌, length, take, drop, OnOk};
 ghost use Rattle.arrayvec.specs.ArrayVec.{array_vec_len};
 ghost use Rattle.hex.specs.Hex.{encode_lower};
 ghost use Rattle.hex_lines.specs.Hex.{text_of};
@@ -35,11 +35,12 @@ pub fn put_lines<const N: usize>(text: &mut ArrayVec<u8, N>, octets: &[u8])
     }
 }
 
-// The octets' text, at the front of a lent text; how long it is.
+// The octets' text, at the front of a lent text; how long it is. What follows stays.
 pub fn hex(octets: &[u8], text: &mut [u8]) -> usize
     requires { 3 * length octets.now ≤ length text.old }
     ensures most { result ≤ 3 * length octets.now }
     ensures text { take result text.new ≡ text_of octets.now }
+    ensures rest { drop result text.new ≡ drop result text.old }
 {
     let mut to = 0;
     for part in octets.chunks(32) {

@@ -3,9 +3,9 @@
 
 pub mod values;
 
-ghost use Rattle.std.specs.Prelude.{◌≡◌, ◌≤◌, length, drop, None};
+ghost use Rattle.std.specs.Prelude.{◌≡◌, ◌≤◌, length, drop, IfSome, None};
+ghost use Rattle.procedure.specs.Procedure.{Sound};
 ghost use Rattle.script_procedure.specs.Table.{row_of};
-ghost use Rattle.script_procedure.specs.Held.{Holds};
 
 use procedure::ArqProcedure;
 use script_inactivity::{put_timer, status_result};
@@ -81,7 +81,7 @@ impl Procedure {
     // A refusal leaves none.
     fn make(&mut self, mut operands: Operands<'_>) -> Answer<0>
         requires { length operands ≡ 17 }
-        ensures { Holds self.old.held → Holds self.new.held }
+        ensures { IfSome self.old.held Sound → IfSome self.new.held Sound }
     {
         let identity = operands.identity()?;
         self.held = None;
@@ -90,7 +90,7 @@ impl Procedure {
     }
 
     fn reset(&mut self) -> Answer<0>
-        ensures { Holds self.old.held → Holds self.new.held }
+        ensures { IfSome self.old.held Sound → IfSome self.new.held Sound }
     {
         let held = self.held.ok_or(NO_CALL)?;
         keep(&mut self.held, held.reset())?;
@@ -104,7 +104,7 @@ impl Procedure {
     // The whole buffer after the event.
     fn receive(&mut self, mut operands: Operands<'_>) -> Answer<335>
         requires { length operands ≡ 44 }
-        ensures { Holds self.old.held → Holds self.new.held }
+        ensures { IfSome self.old.held Sound → IfSome self.new.held Sound }
     {
         let held = self.held.ok_or(NO_CALL)?;
         let block = operands.eight();
@@ -123,7 +123,7 @@ impl Procedure {
 
     fn advance(&mut self, mut operands: Operands<'_>) -> Answer<18>
         requires { length operands ≡ 8 }
-        ensures { Holds self.old.held → Holds self.new.held }
+        ensures { IfSome self.old.held Sound → IfSome self.new.held Sound }
     {
         let held = self.held.ok_or(NO_CALL)?;
         let event = keep(&mut self.held, held.advance(operands.eight()))?;
@@ -133,7 +133,7 @@ impl Procedure {
     // Events are in the protocol's order.
     fn sent(&mut self, mut operands: Operands<'_>) -> Answer<1>
         requires { length operands ≡ 25 }
-        ensures { Holds self.old.held → Holds self.new.held }
+        ensures { IfSome self.old.held Sound → IfSome self.new.held Sound }
     {
         let held = self.held.ok_or(NO_CALL)?;
         let block = operands.eight();
@@ -164,7 +164,7 @@ impl Machine for Procedure {
         ensures some { 1 ≤ result }
         ensures most { result ≤ (row_of op).2 }
         ensures rest { drop result answers.new ≡ drop result answers.old }
-        ensures sound { Holds self.old.held → Holds self.new.held }
+        ensures sound { IfSome self.old.held Sound → IfSome self.new.held Sound }
     {
         match op {
             Op::New => put(answers, self.make(operands)),

@@ -1,6 +1,6 @@
 -- `hex_lines::hex` meets its contract. The invariant: what is there, with the text of the octets to come, is the whole, and
--- they have room. Assumes nothing.
-use Rattle.std.proofs.Common.{◌≡◌, ◌+◌, ◌*◌, ◌≤◌, ◌++◌, length, take}
+-- they have room, and what follows is as it was. Assumes nothing.
+use Rattle.std.proofs.Common.{◌≡◌, ◌+◌, ◌*◌, ◌≤◌, ◌++◌, length, take, drop}
 use Rattle.std.specs.Slice.Iter.{chunks_rest, chunks_size}
 use Rattle.hex_lines.specs.Hex.{text_of}
 use Rattle.hex_lines.proofs.hex.Given as goal
@@ -12,4 +12,5 @@ invariant-loop-part l = record {
   size : chunks_size l.part-iterator ≡ 32;
   room : l.to + 3 * length (chunks_rest l.part-iterator) ≤ 3 * length l.octets;
   text : take l.to l.text ++ text_of (chunks_rest l.part-iterator) ≡ text_of l.octets;
+  rest : drop l.to l.text ≡ drop l.to l.initial.text;
 }

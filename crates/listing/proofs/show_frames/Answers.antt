@@ -1,5 +1,6 @@
 -- `listing::show_frames` meets its contract. Assumes nothing.
-use Rattle.std.proofs.Common.{◌≡◌, ℕ, ◌+◌, ◌-◌, ◌≤◌, List, [], ◌++◌, rules, arith, ap, ◌∙◌, length, take, drop, length-append, length-take-le, take_at, drop_at, drop-drop}
+use Rattle.std.proofs.Common.{◌≡◌, ℕ, ◌≤◌, List, [], ◌++◌, rules, arith, ap, ◌∙◌, length, take, drop, length-append, length-take-le, take_at, drop_at}
+use Rattle.hex_lines.proofs.Lines.{drop_later}
 use Rattle.listing.specs.Text.{Wrote}
 use Rattle.listing.specs.Session.{frames_of, after_of}
 use Rattle.listing.proofs.Sessions.{going_more, after-runs}
@@ -13,12 +14,6 @@ wrote_front before after i end x h w =
 wrote_rest : (before after : List ℕ) (i end : ℕ) (x : List ℕ) → i ≤ length before → Wrote before after i end x → drop end after ≡ drop end before
 wrote_rest before after i end x h w =
     ap (drop end) w.text ∙ drop_at (take i before ++ x) (drop end before) end (omega (arith, length-append (take i before) x, length-take-le i before h, w.place))
-
--- what two lists share from i on they share from any later place on
-drop_later : (xs ys : List ℕ) (i j : ℕ) → i ≤ j → drop i xs ≡ drop i ys → drop j xs ≡ drop j ys
-drop_later xs ys i j h e =
-    let later : i + (j - i) ≡ j = omega arith in
-    rw (drop-drop (j - i) i xs, drop-drop (j - i) i ys, later) at (ap (drop (j - i)) e)
 
 pub loop-next-preserved : goal.loop-next-preserved
 loop-next-preserved c =
