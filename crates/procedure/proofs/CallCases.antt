@@ -1,5 +1,5 @@
 -- The ways of a call through its definition, by what comes of it. Assumes nothing.
-use Rattle.std.proofs.Common.{◌≡◌, ℕ, ◌≤◌, Bool, true, false, cond, not, ◌&&◌, ◌⊎◌, List, length, is_some, Option, unwrap_or, sym, refl, ap, ◌∙◌, subst, inl, inr}
+use Rattle.std.proofs.Common.{◌≡◌, ℕ, ◌≤◌, Bool, true, false, cond, not, ◌&&◌, ◌⊎◌, List, length, is_some, Some, None, Option, unwrap_or, sym, refl, ap, ◌∙◌, subst, inl, inr}
 use Rattle.receiver.specs.declared.SingleMessage.{SingleMessage}
 use Rattle.receiver.specs.declared.StatusRequest.{StatusRequest}
 use Rattle.token.specs.Token.{fewer_than}
@@ -115,6 +115,11 @@ asks_at p b = with_timer p (in_state (clocked p.inactivity b) SendingUnsolicited
 -- where a status is asked for, the answer is that status, and never the end
 pub sends_that : (p : Procedure) (o : Option ArqStatus) (t : StatusTransmission) → gives (sends_status p o) ≡ gives (timers.SendStatus t) → (unwrap_or o blank_status ≡ t.request.status) × (p.inactivity.transaction ≡ t.token)
 sends_that p o t e = let z : unsolicited p (unwrap_or o blank_status) ≡ t = cc in (ap (λ (y : StatusTransmission). y.request.status) z, ap (λ (y : StatusTransmission). y.token) z)
+
+-- of what is held it is the status of that
+pub sends_that_held : (p : Procedure) (o : Option ArqStatus) (t : StatusTransmission) → is_some o ≡ true → gives (sends_status p o) ≡ gives (timers.SendStatus t) → (o ≡ Some t.request.status) × (p.inactivity.transaction ≡ t.token)
+sends_that_held p (Some x) t h e = let z = sends_that p (Some x) t e in (ap (λ (s : ArqStatus). Some s) z.0, z.1)
+sends_that_held p None t h e = cc
 
 pub sends_no_end : (p : Procedure) (o : Option ArqStatus) → gives (sends_status p o) ≡ gives timers.Terminated → ⊥
 sends_no_end p o e = cc

@@ -1,5 +1,5 @@
 -- Laws of the procedure, where the equality with its definition leaves a reader to ask. Assumes nothing.
-use Rattle.std.proofs.Common.{◌≡◌, ℕ, Bool, true, false, List, length, Some, None, Option, option_map, is_some, unwrap_or, sym, refl, ap, ◌∙◌}
+use Rattle.std.proofs.Common.{◌≡◌, ℕ, Bool, true, false, List, length, Some, None, Option, option_map, is_some, sym, refl, ap, ◌∙◌}
 use Rattle.receiver.specs.declared.SingleMessage.{SingleMessage}
 use Rattle.receiver.specs.declared.StatusRequest.{StatusRequest}
 use Rattle.token.specs.Token.{number_after}
@@ -12,35 +12,43 @@ use Rattle.arq.specs.Decode.{decode_of}
 use Rattle.receiver.specs.declared.ArqReassembler.{ArqReassembler}
 use Rattle.inactivity.specs.declared.State.TheVariants.{Waiting}
 use Rattle.receiver.specs.declared.transaction.Transaction.{Transaction}
-use Rattle.receiver.specs.declared.ArqStatus.{ArqStatus}
 use Rattle.receiver.specs.Receiver.{status_of, status_answer, complete_of}
 use Rattle.inactivity.specs.Inactivity.{Timer, clocked}
 use Rattle.procedure.specs.declared.StatusTransmission.{StatusTransmission}
 use Rattle.procedure.specs.declared.ReceiveEvent.TheVariants as receives
 use Rattle.procedure.specs.declared.TimerEvent.TheVariants as timers
-use Rattle.procedure.specs.Procedure.{Procedure, Sound, with_timer, active_of, blank_status, refusal, receive_of, due_at, advance_of}
+use Rattle.procedure.specs.Procedure.{Procedure, Sound, with_timer, active_of, refusal, receive_of, due_at, advance_of}
 use Rattle.procedure.specs.Parts.{timed, ends_unpolled, accepted, let_through, then_hears}
 use Rattle.procedure.specs.History.{present}
-use Rattle.procedure.proofs.CallCases.{due_ways, asks_at, sends_that, sends_no_end, advance_ways, receive_passes, receive_ways}
+use Rattle.procedure.proofs.CallCases.{due_ways, asks_at, sends_that_held, sends_no_end, advance_ways, receive_passes, receive_ways}
 use Rattle.procedure.proofs.Steps.{at}
 use Rattle.procedure.proofs.Parts.{receive_parts}
 
 -- what is held has a status
-told : (s : ArqReassembler) → is_some s.transaction ≡ true → status_answer s ≡ Some (unwrap_or (status_answer s) blank_status)
+told : (s : ArqReassembler) → is_some s.transaction ≡ true → is_some (status_answer s) ≡ true
 told s = by s.transaction
   where
-    by : (o : Option Transaction) → is_some o ≡ true → option_map status_of o ≡ Some (unwrap_or (option_map status_of o) blank_status)
+    by : (o : Option Transaction) → is_some o ≡ true → is_some (option_map status_of o) ≡ true
     by (Some t) h = refl
     by None h = cc
+
+-- what a waiting timer asks for, where a transaction is held whenever it waits
+asked : (p : Procedure) (b : ℕ) (t : StatusTransmission) → ((since : ℕ) → p.inactivity.state ≡ Waiting since → active_of p ≡ true)
+    → (advance_of p b).outcome ≡ gives (timers.SendStatus t) → status_answer p.receiver ≡ Some t.request.status
+asked p b t held =
+    advance_ways (λ a. a.outcome ≡ gives (timers.SendStatus t) → status_answer p.receiver ≡ Some t.request.status) p b (λ n e. cc)
+    (λ q c. at (λ z. (due_at z).outcome ≡ gives (timers.SendStatus t) → status_answer p.receiver ≡ Some t.request.status) c
+    (due_ways (λ a. a.outcome ≡ gives (timers.SendStatus t) → status_answer p.receiver ≡ Some t.request.status) (with_timer p (clocked p.inactivity b)) (λ k e. cc)
+    (λ since st k f e. (sends_that_held (asks_at p b) (status_answer p.receiver) t (told p.receiver (held since st)) e).0) (λ since st k e. cc)))
 
 -- the Rust's `expect`: where an unsolicited status is asked for, there is a status, and it is that one. That it is asked for wherever the
 -- timer says so is `advance_asks` of Exactly, and that a transaction is held there `asks_held`
 pub expected : (p : Procedure) (b : ℕ) (t : StatusTransmission) → Sound p → (advance_of p b).outcome ≡ gives (timers.SendStatus t) → status_answer p.receiver ≡ Some t.request.status
-expected p b t s =
-    advance_ways (λ a. a.outcome ≡ gives (timers.SendStatus t) → status_answer p.receiver ≡ Some t.request.status) p b (λ n e. cc)
-    (λ q c. at (λ z. (due_at z).outcome ≡ gives (timers.SendStatus t) → status_answer p.receiver ≡ Some t.request.status) c
-    (due_ways (λ a. a.outcome ≡ gives (timers.SendStatus t) → status_answer p.receiver ≡ Some t.request.status) (with_timer p (clocked p.inactivity b)) (λ k e. cc)
-    (λ since st k f e. told p.receiver (s.armed (rw st)) ∙ ap (λ (x : ArqStatus). Some x) (sends_that (asks_at p b) (status_answer p.receiver) t e).0) (λ since st k e. cc)))
+expected p b t s = asked p b t (λ since st. s.armed (rw st))
+
+-- so it is of any procedure that holds a transaction
+pub expected_held : (p : Procedure) (b : ℕ) (t : StatusTransmission) → active_of p ≡ true → (advance_of p b).outcome ≡ gives (timers.SendStatus t) → status_answer p.receiver ≡ Some t.request.status
+expected_held p b t h = asked p b t (λ since st. h)
 
 -- Terminated takes two token numbers: the timer's own reset, then the procedure's
 pub terminated_takes_two : (p : Procedure) (b : ℕ) → (advance_of p b).outcome ≡ gives timers.Terminated → (advance_of p b).state.inactivity.next_token ≡ number_after (number_after p.inactivity.next_token)
