@@ -13,6 +13,7 @@ use script_receiver::filled;
 use script_receiver::values::put_status;
 use script_wire::run::{Machine, Operation, Unknown, put};
 use script_wire::{Answer, NO_CALL, Operands, Values, keep};
+use std::marker::Model;
 
 #[derive(Clone, Copy, Debug, PartialEq, Eq)]
 pub enum Op {
@@ -65,10 +66,24 @@ impl Operation for Op {
     }
 }
 
-// A script's procedure, if it has one.
+// A script's procedure, if it has one: a Sound one, since the constructor and the calls made it.
 #[derive(Clone, Copy, Debug, PartialEq, Eq)]
 pub struct Procedure {
     held: Option<ArqProcedure>,
+}
+
+impl Model for Procedure {
+    ghost use Rattle.std.specs.Prelude.{IfSome};
+    ghost use Rattle.procedure.specs.Procedure.{Sound};
+    ghost use Rattle.script_procedure.specs.Held.{Held};
+
+    ghost Value = { Held };
+
+    ghost view = { λ m. record { held = m.held } };
+
+    ghost invariant = { λ m. IfSome m.held Sound };
+
+    ghost inverse = { λ m. record { held = m.held } };
 }
 
 impl Procedure {

@@ -8,6 +8,7 @@ use inactivity::{ArqInactivity, StatusResult};
 use procedure::{ArqProcedure, ReceiveEvent, TimerEvent};
 use rach::MobileIdentity;
 use receiver::{ArqReassembler, Reception, SingleMessage};
+use std::marker::Model;
 
 const IDENTITY: MobileIdentity = MobileIdentity::Tmsi20(1);
 
@@ -37,12 +38,25 @@ pub fn pushes(frames: &[u8], round: u64) -> u64 {
     })
 }
 
-// A procedure, the buffer that it is lent, and the block.
+// A procedure, the buffer that it is lent, and the block. The procedure is Sound, since the constructor and the calls made it.
 #[derive(Clone, Copy)]
 pub struct Life {
     procedure: ArqProcedure,
     buffer: [u8; 255],
     block: u64,
+}
+
+impl Model for Life {
+    ghost use Rattle.procedure.specs.Procedure.{Sound};
+    ghost use Rattle.script_timing.specs.Held.{Living};
+
+    ghost Value = { Living };
+
+    ghost view = { λ l. record { procedure = l.procedure; buffer = l.buffer; block = l.block } };
+
+    ghost invariant = { λ l. Sound l.procedure };
+
+    ghost inverse = { λ l. record { procedure = l.procedure; buffer = l.buffer; block = l.block } };
 }
 
 impl Life {
@@ -123,40 +137,62 @@ where
     sum
 }
 
-pub fn received_frame(timer: &mut ArqInactivity, block: u64) -> u64
-    ensures { SoundTimer timer.old → SoundTimer timer.new }
-{
-    let (after, moved) = timer.received_frame(block);
-    *timer = after;
-    match moved {
-        Ok(()) => 1,
-        Err(error) => number(error),
-    }
+// A timer, Sound in the same way.
+#[derive(Clone, Copy)]
+pub struct Clocked {
+    timer: ArqInactivity,
 }
 
-pub fn advance(timer: &mut ArqInactivity, block: u64) -> u64
-    ensures { SoundTimer timer.old → SoundTimer timer.new }
-{
-    let (after, action) = timer.advance(block);
-    *timer = after;
-    match action {
-        Ok(action) => action as u64,
-        Err(error) => number(error),
+impl Model for Clocked {
+    ghost use Rattle.inactivity.specs.Inactivity.{Sound};
+    ghost use Rattle.script_timing.specs.Held.{Timed};
+
+    ghost Value = { Timed };
+
+    ghost view = { λ c. record { timer = c.timer } };
+
+    ghost invariant = { λ c. Sound c.timer };
+
+    ghost inverse = { λ c. record { timer = c.timer } };
+}
+
+impl Clocked {
+    pub fn received_frame(&mut self, block: u64) -> u64
+        ensures { SoundTimer self.old.timer → SoundTimer self.new.timer }
+    {
+        let (after, moved) = self.timer.received_frame(block);
+        self.timer = after;
+        match moved {
+            Ok(()) => 1,
+            Err(error) => number(error),
+        }
+    }
+
+    pub fn advance(&mut self, block: u64) -> u64
+        ensures { SoundTimer self.old.timer → SoundTimer self.new.timer }
+    {
+        let (after, action) = self.timer.advance(block);
+        self.timer = after;
+        match action {
+            Ok(action) => action as u64,
+            Err(error) => number(error),
+        }
     }
 }
 
 // A call for each octet, so many blocks later, of a timer that waits.
 pub fn timers<F>(steps: &[u8], mut call: F) -> u64
 where
-    F: FnMut(&mut ArqInactivity, u64) -> u64,
+    F: FnMut(&mut Clocked, u64) -> u64,
     requires { F.IsAlwaysCallable call }
 {
-    let (mut timer, _) = ArqInactivity::new(0).received_frame(0);
+    let (timer, _) = ArqInactivity::new(0).received_frame(0);
+    let mut clocked = Clocked { timer };
     let mut block: u64 = 0;
     let mut sum: u64 = 0;
     for step in steps {
         block = block.wrapping_add(u64::from(*step));
-        sum = sum.wrapping_add(call(&mut timer, block));
+        sum = sum.wrapping_add(call(&mut clocked, block));
     }
     sum
 }
