@@ -1,5 +1,5 @@
 -- Laws of the procedure, where the equality with its definition leaves a reader to ask. Assumes nothing.
-use Rattle.std.proofs.Common.{◌≡◌, ℕ, Bool, true, false, List, length, Some, None, Option, option_map, is_some, sym, refl, ap, ◌∙◌}
+use Rattle.std.proofs.Common.{◌≡◌, ℕ, Bool, true, false, List, length, Some, None, Option, option_map, is_some, unwrap_or, sym, refl, ap, ◌∙◌}
 use Rattle.receiver.specs.declared.SingleMessage.{SingleMessage}
 use Rattle.receiver.specs.declared.StatusRequest.{StatusRequest}
 use Rattle.token.specs.Token.{number_after}
@@ -17,7 +17,7 @@ use Rattle.inactivity.specs.Inactivity.{Timer, clocked}
 use Rattle.procedure.specs.declared.StatusTransmission.{StatusTransmission}
 use Rattle.procedure.specs.declared.ReceiveEvent.TheVariants as receives
 use Rattle.procedure.specs.declared.TimerEvent.TheVariants as timers
-use Rattle.procedure.specs.Procedure.{Procedure, Sound, with_timer, active_of, refusal, receive_of, due_at, advance_of}
+use Rattle.procedure.specs.Procedure.{Procedure, Sound, with_timer, active_of, blank_status, refusal, receive_of, due_at, advance_of}
 use Rattle.procedure.specs.Parts.{timed, ends_unpolled, accepted, let_through, then_hears}
 use Rattle.procedure.specs.History.{present}
 use Rattle.procedure.proofs.CallCases.{due_ways, asks_at, sends_that_held, sends_no_end, advance_ways, receive_passes, receive_ways}
@@ -25,10 +25,10 @@ use Rattle.procedure.proofs.Steps.{at}
 use Rattle.procedure.proofs.Parts.{receive_parts}
 
 -- what is held has a status
-told : (s : ArqReassembler) → is_some s.transaction ≡ true → is_some (status_answer s) ≡ true
+told : (s : ArqReassembler) → is_some s.transaction ≡ true → status_answer s ≡ Some (unwrap_or (status_answer s) blank_status)
 told s = by s.transaction
   where
-    by : (o : Option Transaction) → is_some o ≡ true → is_some (option_map status_of o) ≡ true
+    by : (o : Option Transaction) → is_some o ≡ true → option_map status_of o ≡ Some (unwrap_or (option_map status_of o) blank_status)
     by (Some t) h = refl
     by None h = cc
 
@@ -39,7 +39,7 @@ asked p b t held =
     advance_ways (λ a. a.outcome ≡ gives (timers.SendStatus t) → status_answer p.receiver ≡ Some t.request.status) p b (λ n e. cc)
     (λ q c. at (λ z. (due_at z).outcome ≡ gives (timers.SendStatus t) → status_answer p.receiver ≡ Some t.request.status) c
     (due_ways (λ a. a.outcome ≡ gives (timers.SendStatus t) → status_answer p.receiver ≡ Some t.request.status) (with_timer p (clocked p.inactivity b)) (λ k e. cc)
-    (λ since st k f e. (sends_that_held (asks_at p b) (status_answer p.receiver) t (told p.receiver (held since st)) e).0) (λ since st k e. cc)))
+    (λ since st k f e. (sends_that_held (asks_at p b) (status_answer p.receiver) t (ap is_some (told p.receiver (held since st))) e).0) (λ since st k e. cc)))
 
 -- the Rust's `expect`: where an unsolicited status is asked for, there is a status, and it is that one. That it is asked for wherever the
 -- timer says so is `advance_asks` of Exactly, and that a transaction is held there `asks_held`
