@@ -32,23 +32,20 @@ told s = by s.transaction
     by (Some t) h = refl
     by None h = cc
 
--- what a waiting timer asks for, where a transaction is held whenever it waits
-asked : (p : Procedure) (b : ℕ) (t : StatusTransmission) → ((since : ℕ) → p.inactivity.state ≡ Waiting since → active_of p ≡ true)
+-- the Rust's `expect`: where an unsolicited status is asked for, there is a status, and it is that one, if a transaction is held while the
+-- timer waits
+pub expected_held : (p : Procedure) (b : ℕ) (t : StatusTransmission) → ((since : ℕ) → p.inactivity.state ≡ Waiting since → active_of p ≡ true)
     → (advance_of p b).outcome ≡ gives (timers.SendStatus t) → status_answer p.receiver ≡ Some t.request.status
-asked p b t held =
+expected_held p b t held =
     advance_ways (λ a. a.outcome ≡ gives (timers.SendStatus t) → status_answer p.receiver ≡ Some t.request.status) p b (λ n e. cc)
     (λ q c. at (λ z. (due_at z).outcome ≡ gives (timers.SendStatus t) → status_answer p.receiver ≡ Some t.request.status) c
     (due_ways (λ a. a.outcome ≡ gives (timers.SendStatus t) → status_answer p.receiver ≡ Some t.request.status) (with_timer p (clocked p.inactivity b)) (λ k e. cc)
     (λ since st k f e. (sends_that_held (asks_at p b) (status_answer p.receiver) t (ap is_some (told p.receiver (held since st))) e).0) (λ since st k e. cc)))
 
--- the Rust's `expect`: where an unsolicited status is asked for, there is a status, and it is that one. That it is asked for wherever the
--- timer says so is `advance_asks` of Exactly, and that a transaction is held there `asks_held`
+-- it is, where the constructor and the calls made the procedure. That it is asked for wherever the timer says so is `advance_asks` of
+-- Exactly, and that a transaction is held there `asks_held`
 pub expected : (p : Procedure) (b : ℕ) (t : StatusTransmission) → Sound p → (advance_of p b).outcome ≡ gives (timers.SendStatus t) → status_answer p.receiver ≡ Some t.request.status
-expected p b t s = asked p b t (λ since st. s.armed (rw st))
-
--- so it is of any procedure that holds a transaction
-pub expected_held : (p : Procedure) (b : ℕ) (t : StatusTransmission) → active_of p ≡ true → (advance_of p b).outcome ≡ gives (timers.SendStatus t) → status_answer p.receiver ≡ Some t.request.status
-expected_held p b t h = asked p b t (λ since st. h)
+expected p b t s = expected_held p b t (λ since st. s.armed (rw st))
 
 -- Terminated takes two token numbers: the timer's own reset, then the procedure's
 pub terminated_takes_two : (p : Procedure) (b : ℕ) → (advance_of p b).outcome ≡ gives timers.Terminated → (advance_of p b).state.inactivity.next_token ≡ number_after (number_after p.inactivity.next_token)
